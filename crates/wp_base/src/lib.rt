@@ -1,0 +1,14 @@
+//! Base types of the verifier: texts, lists, boxes, want of memory, and the answers of the program.
+#![tactic(auto)]
+
+mod answers;
+mod boxed;
+mod list;
+mod memory;
+mod text;
+
+pub use answers::{Line, Refusal, Rule, Status, Stop};
+pub use boxed::Boxed;
+pub use list::List;
+pub use memory::NoMemory;
+pub use text::Str;

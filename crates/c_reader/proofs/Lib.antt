@@ -1,0 +1,8 @@
+pub mod Numbers
+pub mod Longest
+pub mod Lexing
+pub mod Reading
+pub mod Naming
+pub mod Sound
+pub mod Complete
+pub mod Exact

@@ -1,0 +1,20 @@
+use Rattle.std.proofs.Common.{arith, ◌∙◌, ◌-◌, ◌+◌, length}
+use Rattle.std.proofs.lemmas.Result.{err_from_is_err_and}
+use Rattle.core_prog.specs.View.{view_expr}
+use Rattle.c_reader.proofs.Reading.{chain_fault, chain_turn}
+use Rattle.c_reader.proofs.sums.chain.Goals as goal
+
+pub returns-in_err-right : goal.returns-in_err-right
+returns-in_err-right c =
+    let p = err_from_is_err_and c.from_residual.result c.from_residual.ensures.1 in
+    let left = length c.args.tokens.now - c.loop-turn.turn in
+    rw (p.1, p.2, ← c.loop-turn.invariant)
+    (chain_fault c.args.annotated left (left - 1) (view_expr c.loop-turn.left) c.loop-turn.rest.now c.in-Some.op c.in-Some.line c.in-Some.after.now _ (omega arith) c.in-Some.ensures c.in_err-right.ensures)
+
+pub loop-turn-preserved : goal.loop-turn-preserved
+loop-turn-preserved c =
+    let left = length c.args.tokens.now - c.loop-turn.turn in
+    let later = length c.args.tokens.now - (c.loop-turn.turn + 1) in
+    chain_turn c.args.annotated left later (view_expr c.loop-turn.left) (view_expr c.in_ok-right.right) (view_expr c.in_ok-left.left) c.loop-turn.rest.now
+    c.in-Some.op c.in-Some.line c.in-Some.after.now c.in_ok-right.after.now (omega arith) c.in-Some.ensures c.in_ok-right.ensures c.in_ok-left.ensures
+    ∙ c.loop-turn.invariant

@@ -1,0 +1,8 @@
+pub mod Refused
+pub mod Tokens
+pub mod Scan
+pub mod Grammar
+pub mod Program
+pub mod Reader
+pub mod Views
+pub mod Allowed

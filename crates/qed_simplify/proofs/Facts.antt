@@ -1,0 +1,68 @@
+-- Small facts on tests and numbers.
+use Rattle.std.proofs.Common.{◌≡◌, ℕ, zero, suc, ◌*◌, ◌≤◌, Bool, true, false, ◌&&◌, ◌||◌, ◌⊎◌, inl, inr, ℤ, pos, negsuc, ◌-ℤ◌, ◌*ℤ◌, unsigned_abs, refl, arith, Option, Some, None}
+use Rattle.std.proofs.lemmas.Int.{ints, unsigned_abs-mul}
+use Rattle.qed_terms.specs.Tree.{Tree}
+use Rattle.qed_terms.specs.Meaning.{is_zero, is_equal}
+use Rattle.qed_simplify.specs.Rules.{where_so, first_some}
+
+pub and_left : (p q : Bool) → p && q ≡ true → p ≡ true
+and_left true q k = refl
+and_left false q k = k
+
+pub and_right : (p q : Bool) → p && q ≡ true → q ≡ true
+and_right true q k = k
+and_right false q k = absurd cc
+
+pub or_left : (p q : Bool) → p || q ≡ false → p ≡ false
+or_left true q k = absurd cc
+or_left false q k = refl
+
+pub or_right : (p q : Bool) → p || q ≡ false → q ≡ false
+or_right true q k = absurd cc
+or_right false q k = k
+
+pub or_either : (p q : Bool) → p || q ≡ true → (p ≡ true) ⊎ (q ≡ true)
+or_either true q k = inl refl
+or_either false q k = inr k
+
+pub so_is : (b : Bool) (t w : Tree) → where_so b t ≡ Some w → (b ≡ true) × (t ≡ w)
+so_is true t w k = (refl, cc)
+so_is false t w k = absurd cc
+
+pub not_so : (b : Bool) (t : Tree) → where_so b t ≡ None → b ≡ false
+not_so true t k = absurd cc
+not_so false t k = refl
+
+pub either : (o p : Option Tree) (w : Tree) → first_some o p ≡ Some w → (o ≡ Some w) ⊎ (p ≡ Some w)
+either (Some t) p w k = inl k
+either None p w k = inr k
+
+pub first_none : (o p : Option Tree) → first_some o p ≡ None → o ≡ None
+first_none (Some t) p k = absurd cc
+first_none None p k = refl
+
+pub zero_is : (z : ℤ) → is_zero z ≡ true → z ≡ pos 0
+zero_is (pos zero) k = refl
+zero_is (pos (suc n)) k = absurd cc
+zero_is (negsuc n) k = absurd cc
+
+pub equal_is : (a b : ℤ) → is_equal a b ≡ true → a ≡ b
+equal_is a b k = omega (arith, ints, zero_is (a -ℤ b) k)
+
+pub some_size : (z : ℤ) → is_zero z ≡ false → 1 ≤ unsigned_abs z
+some_size (pos zero) k = absurd cc
+some_size (pos (suc n)) k = omega arith
+some_size (negsuc n) k = omega arith
+
+pub sized : (z : ℤ) → 1 ≤ unsigned_abs z → is_zero z ≡ false
+sized (pos zero) k = absurd (omega arith)
+sized (pos (suc n)) k = refl
+sized (negsuc n) k = refl
+
+pos_mul : (x y : ℕ) → 1 ≤ x → 1 ≤ y → 1 ≤ x * y
+pos_mul zero y k l = absurd (omega arith)
+pos_mul (suc m) zero k l = absurd (omega arith)
+pos_mul (suc m) (suc n) k l = omega arith
+
+pub no_zero : (a b : ℤ) → is_zero a ≡ false → is_zero b ≡ false → is_zero (a *ℤ b) ≡ false
+no_zero a b k l = sized (a *ℤ b) (omega (arith, unsigned_abs-mul a b, pos_mul (unsigned_abs a) (unsigned_abs b) (some_size a k) (some_size b l)))

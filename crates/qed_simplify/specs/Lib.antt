@@ -1,0 +1,6 @@
+pub mod Order
+pub mod Linear
+pub mod Rules
+pub mod Normal
+pub mod Direct
+pub mod View

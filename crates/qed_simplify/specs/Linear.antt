@@ -1,0 +1,187 @@
+-- Linear forms of terms: numbers times atoms, in the order of the atoms, and a constant.
+use Rattle.std.specs.Prelude.{ℕ, zero, suc, ◌+◌, ◌-◌, ◌/◌, ◌%◌, ◌^◌, nat_lt, ◌==◌, Bool, true, false, ◌&&◌, if◌then◌else◌, ℤ, pos, negsuc, ◌+ℤ◌, ◌*ℤ◌, int_lt, int_div, unsigned_abs, List, [], ◌∷◌, ◌++◌, map, Option, Some, None}
+use Rattle.std.specs.declared.cmp.Ordering.{Ordering}
+use Rattle.std.specs.declared.cmp.Ordering.TheVariants.{Less, Equal, Greater}
+use Rattle.qed_terms.specs.declared.head.Head.{Head}
+use Rattle.qed_terms.specs.declared.head.Head.TheVariants as h
+use Rattle.qed_terms.specs.declared.head.TermOp.{TermOp}
+use Rattle.qed_terms.specs.declared.head.TermOp.TheVariants as op
+use Rattle.qed_terms.specs.Tree.{Tree, node, Trees, stop, more, trees_of, head_of, two, num}
+use Rattle.qed_terms.specs.Meaning.{is_zero, is_equal}
+use Rattle.qed_simplify.specs.Order.{tree_cmp}
+
+-- whether a number fits 128 bits
+unfoldable pub fits : ℤ → Bool
+fits (pos n) = nat_lt n (2 ^ 127)
+fits (negsuc n) = nat_lt n (2 ^ 127)
+
+-- an atom and its coefficient
+pub record Part : Type 0 where
+  pub atom : Tree
+  pub times : ℤ
+
+pub record Lin : Type 0 where
+  pub parts : List Part
+  pub constant : ℤ
+
+abbrev pub part : Tree → ℤ → Part
+part a c = record { atom = a; times = c }
+
+abbrev pub lin : List Part → ℤ → Lin
+lin ps c = record { parts = ps; constant = c }
+
+abbrev pub number : ℤ → Lin
+number z = lin [] z
+
+abbrev pub atom_lin : Tree → Lin
+atom_lin t = lin (part t (pos 1) ∷ []) (pos 0)
+
+abbrev pub is_empty : List Part → Bool
+is_empty [] = true
+is_empty (p ∷ ps) = false
+
+abbrev pub is_number : Lin → Bool
+is_number f = is_empty (f.parts)
+
+-- ---- the term of a form: its parts, then the constant
+
+abbrev pub part_tree : Part → Tree
+part_tree p = if is_equal (p.times) (pos 1) then p.atom else node (h.Term op.Mul) (two (num (p.times)) (p.atom))
+
+abbrev pub constant_trees : ℤ → List Tree
+constant_trees c = if is_zero c then [] else num c ∷ []
+
+abbrev pub sum_tree : List Tree → Tree
+sum_tree [] = num (pos 0)
+sum_tree (t ∷ []) = t
+sum_tree (t ∷ u ∷ ts) = node (h.Term op.Add) (trees_of (t ∷ u ∷ ts))
+
+abbrev pub of_lin : Lin → Tree
+of_lin f = sum_tree (map part_tree (f.parts) ++ constant_trees (f.constant))
+
+-- ---- sums and products of forms, over integers of any size
+
+abbrev pub at_order : {A : Type 0} → Ordering → A → A → A → A
+at_order Less a b c = a
+at_order Equal a b c = b
+at_order Greater a b c = c
+
+-- no part of coefficient 0
+abbrev pub keep : Tree → ℤ → List Part → List Part
+keep a c ps = if is_zero c then ps else part a c ∷ ps
+
+-- one part more
+abbrev pub into : Tree → ℤ → List Part → List Part
+into a c [] = keep a c []
+into a c (p ∷ ps) = at_order (tree_cmp a (p.atom)) (keep a c (p ∷ ps)) (keep (p.atom) (c +ℤ p.times) ps) (p ∷ into a c ps)
+
+abbrev pub merged : List Part → List Part → List Part
+merged [] qs = qs
+merged (p ∷ ps) qs = into (p.atom) (p.times) (merged ps qs)
+
+abbrev pub plus : Lin → Lin → Lin
+plus f g = lin (merged (f.parts) (g.parts)) (f.constant +ℤ g.constant)
+
+abbrev pub total_lin : List Lin → Lin
+total_lin [] = number (pos 0)
+total_lin (f ∷ fs) = plus f (total_lin fs)
+
+abbrev pub times_parts : ℤ → List Part → List Part
+times_parts c [] = []
+times_parts c (p ∷ ps) = part (p.atom) (c *ℤ p.times) ∷ times_parts c ps
+
+abbrev pub scaled : ℤ → Lin → Lin
+scaled c f = if is_zero c then number (pos 0) else lin (times_parts c (f.parts)) (c *ℤ f.constant)
+
+abbrev pub minus : Lin → Lin → Lin
+minus f g = plus f (scaled (negsuc 0) g)
+
+-- ---- the form of a term
+
+abbrev pub is_term : Head → Bool
+is_term (h.Num z) = true
+is_term (h.Var x) = true
+is_term (h.Term o) = true
+is_term head = false
+
+abbrev pub parts_hold : List Part → Bool
+parts_hold [] = true
+parts_hold (p ∷ ps) = (fits (p.times) && is_term (head_of (p.atom))) && parts_hold ps
+
+-- the form where it is of terms and all its numbers fit
+abbrev pub cut : Lin → Option Lin
+cut f = if parts_hold (f.parts) && fits (f.constant) then Some f else None
+
+abbrev pub product_form : Lin → Lin → Option Lin
+product_form f g = if is_number f then cut (scaled (f.constant) g) else (if is_number g then cut (scaled (g.constant) f) else None)
+
+abbrev pub term_form : TermOp → List Lin → Option Lin
+term_form op.Add fs = cut (total_lin fs)
+term_form op.Sub (f ∷ g ∷ []) = cut (minus f g)
+term_form op.Mul (f ∷ g ∷ []) = product_form f g
+term_form op.Neg (f ∷ []) = cut (scaled (negsuc 0) f)
+term_form o fs = None
+
+abbrev pub own_form : Head → List Lin → Option Lin
+own_form (h.Num z) fs = cut (number z)
+own_form (h.Term o) fs = term_form o fs
+own_form head fs = None
+
+abbrev pub or_atom : Option Lin → Tree → Lin
+or_atom None t = atom_lin t
+or_atom (Some f) t = f
+
+abbrev mutual
+  -- a node that has no form of its own is an atom
+  pub lower : Tree → Lin
+  lower (node head ts) = or_atom (own_form head (lowers ts)) (node head ts)
+
+  pub lowers : Trees → List Lin
+  lowers stop = []
+  lowers (more t ts) = lower t ∷ lowers ts
+
+-- ---- the common divisor of the coefficients
+
+-- Euclid's steps, at most so many; each remainder is below the one before
+abbrev pub gcd_within : ℕ → ℕ → ℕ → ℕ
+gcd_within zero a b = a
+gcd_within (suc n) a b = if b == 0 then a else gcd_within n b (a % b)
+
+unfoldable pub gcd : ℕ → ℕ → ℕ
+gcd a b = gcd_within (b + 1) a b
+
+abbrev pub divisor : List Part → ℕ
+divisor [] = 0
+divisor (p ∷ ps) = gcd (unsigned_abs (p.times)) (divisor ps)
+
+abbrev pub divided : ℕ → List Part → List Part
+divided d [] = []
+divided d (p ∷ ps) = part (p.atom) (int_div (p.times) (pos d)) ∷ divided d ps
+
+-- z divided by d, rounded up
+unfoldable pub rounded_up : ℕ → ℤ → ℤ
+rounded_up d (pos n) = pos ((n + (d - 1)) / d)
+rounded_up d (negsuc n) = int_div (negsuc n) (pos d)
+
+abbrev pub divides : ℕ → ℤ → Bool
+divides d z = unsigned_abs z % d == 0
+
+-- for L <= 0: the same integers are at most 0
+abbrev pub tight : Lin → Lin
+tight f = lin (divided (divisor (f.parts)) (f.parts)) (rounded_up (divisor (f.parts)) (f.constant))
+
+-- for L = 0, where the divisor divides the constant
+abbrev pub exact : Lin → Lin
+exact f = lin (divided (divisor (f.parts)) (f.parts)) (int_div (f.constant) (pos (divisor (f.parts))))
+
+abbrev pub begins_negative : List Part → Bool
+begins_negative [] = false
+begins_negative (p ∷ ps) = int_lt (p.times) (pos 0)
+
+abbrev pub or_else : {A : Type 0} → Option A → A → A
+or_else None a = a
+or_else (Some b) a = b
+
+-- the first coefficient made positive
+abbrev pub turned : Lin → Lin
+turned f = if begins_negative (f.parts) then or_else (cut (scaled (negsuc 0) f)) f else f

@@ -1,0 +1,5 @@
+pub mod Answering
+pub mod Claims
+pub mod Judging
+pub mod Lines
+pub mod Texts

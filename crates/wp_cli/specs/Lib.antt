@@ -1,0 +1,6 @@
+pub mod Answers
+pub mod AnswerView
+pub mod Command
+pub mod Report
+pub mod ReportView
+pub mod Top

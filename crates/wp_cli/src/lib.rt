@@ -1,0 +1,13 @@
+//! The top call of the program: from the words of the command to the report.
+#![tactic(auto)]
+
+mod answer;
+mod pieces;
+mod refusals;
+mod report;
+mod top;
+mod verdicts;
+mod words;
+
+pub use report::{FunctionReport, Report, ReportGoal, Verdict, report_text};
+pub use top::wp_main;

@@ -1,0 +1,118 @@
+// The top call.
+ghost use Rattle.std.specs.Prelude.{◌≡◌, ◌↔◌, ◌≤◌, ℕ, List, None, Some, IsTrue, IfOk};
+ghost use Rattle.std.specs.Option.{ForSome};
+ghost use Rattle.wp_io.specs.Faults.{Rose};
+ghost use Rattle.wp_cli.specs.Command.{file_named as named};
+ghost use Rattle.wp_cli.specs.Top.{AnswersFile, GoalsAreExactIn, IsAnsweredBy, OnAnswer, OnReport, ProvedFunctionsAreCorrect, ProvedGoalsAreValid, ReadsEnough, WritesAnswer, WritesFront, WritesReport, told};
+ghost use Rattle.wp_cli.specs.declared.top.Unread.TheVariants as unread;
+
+use crate::answer::{Answer, text_answer, too_long_answer};
+use crate::words::file_named;
+use std::alloc::Global;
+use wp_base::{NoMemory, Status, Str};
+use wp_io::{Failed, Files, ReadEnd, Sink, read_all, write_all};
+
+/// How many bytes a text may have.
+const LIMIT: usize = 1_048_576;
+
+/// Why there is no answer.
+#[derive(Clone, Copy, Debug, PartialEq, Eq)]
+enum Unread {
+    ReadFault,
+    NoMemory,
+}
+
+impl From<Failed> for Unread {
+    ghost from_gives = { λ _ e. e ≡ unread.ReadFault };
+
+    fn from(_: Failed) -> Self {
+        Unread::ReadFault
+    }
+}
+
+impl From<NoMemory> for Unread {
+    ghost from_gives = { λ _ e. e ≡ unread.NoMemory };
+
+    fn from(_: NoMemory) -> Self {
+        Unread::NoMemory
+    }
+}
+
+// Reads a file and finds the answer to its text.
+fn file_answer<F: Files>(alloc: Global, files: &mut F, name: &Str) -> Result<Answer, Unread>
+    requires { IsTrue (F.may_open files.old name.now) }
+    ensures answer { IfOk result (λ answer. AnswersFile (F.holds files.old name.now) answer.status answer.text) }
+    ensures read { IfOk result (λ answer. ReadsEnough answer.status (F.holds files.old name.now) (F.left files.new)) }
+    ensures fault { result ≡ Err Unread.ReadFault → Rose (F.faults files.old) (F.faults files.new) }
+    ensures later { F.faults files.old ≤ F.faults files.new }
+{
+    files.open(name)?;
+    match read_all(alloc, files, LIMIT) {
+        Ok(text) => {
+            let answer = text_answer(alloc, text.as_slice())?;
+            Ok(answer)
+        }
+        Err(ReadEnd::TooLong) => {
+            let answer = too_long_answer(alloc)?;
+            Ok(answer)
+        }
+        Err(ReadEnd::ReadFault) => Err(Unread::ReadFault),
+        Err(ReadEnd::NoMemory) => Err(Unread::NoMemory),
+    }
+}
+
+/// What a run of the program does: it finds the file that the words name, reads it, finds the answer
+/// to its text, a report or a refusal, and writes it. The answer to an earlier step is given: words,
+/// opening and reading, faults of the text, goals, writing. `NoMemory` may stand before any but the
+/// first and the last. It may be called again after any answer.
+///
+/// A command is one word, the name of the file; it is UTF-8 and doesn't begin with `-`.
+pub fn wp_main<F: Files, K: Sink>(
+    alloc: Global,
+    words: &[Str],
+    files: &mut F,
+    out: &mut K,
+) -> Status
+    requires { ForSome (named words.now) (λ name. IsTrue (F.may_open files.old name)) }
+
+    // The words.
+    ensures usage { (result ≡ Status.Usage) ↔ (named words.now ≡ None) }
+    ensures nothing_opened { result ≡ Status.Usage → files.new ≡ files.old }
+    ensures usage_unwritten { result ≡ Status.Usage → out.new ≡ out.old }
+
+    // How much was read.
+    ensures read { ReadsEnough result (told F.holds files.old words.now) (F.left files.new) }
+
+    // What is written is the answer to the text that was read.
+    ensures answered { OnAnswer result (WritesAnswer (told F.holds files.old words.now) (K.taken out.old) (K.taken out.new) result) }
+
+    // What the report says of the program.
+    ensures proved_goals { OnReport result (WritesReport (told F.holds files.old words.now) (K.taken out.old) (K.taken out.new) ProvedGoalsAreValid) }
+    ensures proved_functions { OnReport result (WritesReport (told F.holds files.old words.now) (K.taken out.old) (K.taken out.new) ProvedFunctionsAreCorrect) }
+    ensures exact_goals { OnReport result (WritesReport (told F.holds files.old words.now) (K.taken out.old) (K.taken out.new) GoalsAreExactIn) }
+
+    // Faults.
+    ensures read_fault { result ≡ Status.ReadFault → Rose (F.faults files.old) (F.faults files.new) }
+    ensures unread_unwritten { result ≡ Status.ReadFault → out.new ≡ out.old }
+    ensures write_fault { result ≡ Status.WriteFault → Rose (K.faults out.old) (K.faults out.new) }
+    ensures front { result ≡ Status.WriteFault → WritesFront (told F.holds files.old words.now) (K.taken out.old) (K.taken out.new) }
+    ensures no_memory_unwritten { result ≡ Status.NoMemory → out.new ≡ out.old }
+
+    // A command whose file tells its text is answered, unless a fault was counted or memory ran out.
+    ensures complete { (text : List ℕ) → told F.holds files.old words.now ≡ Some text
+        → (Rose (F.faults files.old) (F.faults files.new) → ⊥) → (Rose (K.faults out.old) (K.faults out.new) → ⊥)
+        → IsAnsweredBy text result }
+{
+    let Some(name) = file_named(words) else {
+        return Status::Usage;
+    };
+    let answer = match file_answer(alloc, files, name) {
+        Ok(answer) => answer,
+        Err(Unread::ReadFault) => return Status::ReadFault,
+        Err(Unread::NoMemory) => return Status::NoMemory,
+    };
+    match write_all(out, answer.text.bytes()) {
+        Ok(()) => answer.status,
+        Err(_) => Status::WriteFault,
+    }
+}

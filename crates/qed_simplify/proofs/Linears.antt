@@ -13,7 +13,7 @@ use Rattle.qed_simplify.specs.Order.{tree_cmp, same}
 use Rattle.qed_simplify.specs.Linear.{fits, Part, Lin, part, lin, number, atom_lin, is_number, part_tree, constant_trees, sum_tree, of_lin, at_order, keep, into, merged, plus, total_lin, times_parts, scaled, minus, is_term, parts_hold, cut, term_form, own_form, or_atom, lower, lowers}
 use Rattle.qed_simplify.specs.Rules.{differs, changed, sums, first_some, step}
 use Rattle.qed_simplify.specs.Normal.{Normal, Normals, stays, changes, nothing, each}
-use Rattle.qed_simplify.proofs.Facts.{and_left, and_right, zero_is, equal_is, no_zero, first_none}
+use Rattle.qed_simplify.proofs.Facts.{and_left, and_right, zero_is, equal_is, no_zero}
 use Rattle.qed_simplify.proofs.Total.{tree_turned, tree_chain, same_itself, same_exact}
 use Rattle.qed_simplify.proofs.Derived.{Fixed, AllFixed, fixed-normal}
 
@@ -307,15 +307,6 @@ good_or_atom (node head ts) f = go (own_form head (lowers ts)) refl
     go : (o : Option Lin) → own_form head (lowers ts) ≡ o → GoodLin (or_atom o (node head ts)) ⊎ (or_atom o (node head ts) ≡ atom_lin (node head ts))
     go None e = inr refl
     go (Some g) e = inl (own_good head (lowers ts) g (lowers_good ts f.0) e)
-
--- ---- and terms in normal form are the terms of their forms
-
-pub of_lower : (t : Tree) → Fixed step t → of_lin (lower t) ≡ t
-of_lower (node head ts) f = go (own_form head (lowers ts)) refl
-  where
-    go : (o : Option Lin) → own_form head (lowers ts) ≡ o → of_lin (or_atom o (node head ts)) ≡ node head ts
-    go None e = refl
-    go (Some g) e = none_differs (of_lin g) (node head ts) (sym (ap (λ o. changed of_lin o (node head ts)) e) ∙ first_none (sums head ts) _ f.1)
 
 -- ---- a sum or a product of fixed kids
 

@@ -1,0 +1,137 @@
+// The answers to texts.
+
+use crate::runs::{NAME, ROOM, file, run, sink};
+use std::test::Fail;
+use wp_base::{Status, Str};
+use wp_cli::wp_main;
+use wp_io::{StillFiles, StillSink};
+
+pub const ID: &[u8] = b"/*@ ensures \\result == a; */\nint id(int a) { return a; }\n";
+
+pub const ID_REPORT: &[u8] = b"goal id 1 ensures line 1 proved\ngoals 1 proved 1 unknown 0\n";
+
+pub const LEFT: &[u8] =
+    b"/*@ requires a < b; ensures \\result + b == b + a; */ int left(int a, int b) { return a; }";
+
+pub const LEFT_REPORT: &[u8] = b"goal left 1 ensures line 1 proved\ngoals 1 proved 1 unknown 0\n";
+
+// Texts, what is written and how the run ends.
+const ANSWERS: [(&[u8], &[u8], Status); 13] = [
+    (b"", b"goals 0 proved 0 unknown 0\n", Status::AllProved),
+    (ID, ID_REPORT, Status::AllProved),
+    (
+        b"int inc(int a) { return a + 1; }",
+        b"goal inc 1 overflow line 1 unknown open\ngoals 1 proved 0 unknown 1\n",
+        Status::SomeUnknown,
+    ),
+    (LEFT, LEFT_REPORT, Status::AllProved),
+    (
+        b"/*@ requires a < 5; ensures \\result < 5; */ int small(int a) { return a; }",
+        b"goal small 1 ensures line 1 proved\ngoals 1 proved 1 unknown 0\n",
+        Status::AllProved,
+    ),
+    // Two constants with a defined value are one number, so the second sum alone has a check.
+    (
+        b"int three(int a) { return 1 + 2 + a; }",
+        b"goal three 1 overflow line 1 unknown open\ngoals 1 proved 0 unknown 1\n",
+        Status::SomeUnknown,
+    ),
+    (
+        b"int much(void)\n{ return\n2147483647 + 1; }",
+        b"goal much 1 overflow line 3 unknown open\ngoals 1 proved 0 unknown 1\n",
+        Status::SomeUnknown,
+    ),
+    // The range of a parameter is known.
+    (
+        b"/*@ ensures \\result <= 2147483647; ensures \\result < 2147483647; */ int f(int a) { return a; }",
+        b"goal f 1 ensures line 1 proved\ngoal f 2 ensures line 1 unknown open\ngoals 2 proved 1 unknown 1\n",
+        Status::SomeUnknown,
+    ),
+    // Each function's goals are numbered from 1.
+    (
+        b"int one(int a) { return a + a; } int two(int a) { return a - a; }",
+        b"goal one 1 overflow line 1 unknown open\ngoal two 1 overflow line 1 proved\ngoals 2 proved 1 unknown 1\n",
+        Status::SomeUnknown,
+    ),
+    (
+        b"int f(void) { return 0 }",
+        b"refused line 1: 3 syntax\n",
+        Status::Refused,
+    ),
+    (
+        b"int f(int a) { return a--b; }",
+        b"refused line 1: 3 syntax\n",
+        Status::Refused,
+    ),
+    (
+        b"\n\nint f(int a) { return b; }",
+        b"refused line 1: 3 syntax\n",
+        Status::Refused,
+    ),
+    (
+        b"int f(int \xc3\xa9) { return 0; }",
+        b"refused line 1: 3 syntax\n",
+        Status::Refused,
+    ),
+];
+
+#[test]
+fn answers_texts(rt: HostRuntime) -> Result<(), Fail> {
+    let alloc = rt.alloc();
+    for (text, written, status) in ANSWERS {
+        let mut files = file(alloc, text, 64, &[])?;
+        let mut out = sink(alloc, ROOM, 64, &[])?;
+        assert_eq!(rt; run(alloc, &[NAME], &mut files, &mut out)?, status);
+        assert_eq!(rt; out.taken.as_slice(), written);
+    }
+    Ok(())
+}
+
+#[test]
+fn takes_texts_up_to_the_limit(rt: HostRuntime) -> Result<(), Fail> {
+    let alloc = rt.alloc();
+    let mut text = Vec::new(alloc);
+    text.resize(1_048_576, b' ')?;
+    for (written, status) in [
+        (
+            b"goals 0 proved 0 unknown 0\n".as_slice(),
+            Status::AllProved,
+        ),
+        (b"refused line 1: 4 limit\n".as_slice(), Status::Refused),
+    ] {
+        let mut files = file(alloc, text.as_slice(), 4096, &[])?;
+        let mut out = sink(alloc, ROOM, 64, &[])?;
+        assert_eq!(rt; run(alloc, &[NAME], &mut files, &mut out)?, status);
+        assert_eq!(rt; out.taken.as_slice(), written);
+        text.push(b' ')?;
+    }
+    Ok(())
+}
+
+#[test]
+fn reports_the_same_by_any_piece(rt: HostRuntime) -> Result<(), Fail> {
+    let alloc = rt.alloc();
+    for piece in [1, 2, 7, 64] {
+        assert!(rt; piece > 0);
+        let mut files = file(alloc, ID, piece, &[])?;
+        let mut out = sink(alloc, ROOM, piece, &[])?;
+        assert_eq!(rt;
+            run(alloc, &[NAME], &mut files, &mut out)?,
+            Status::AllProved
+        );
+        assert_eq!(rt; out.taken.as_slice(), ID_REPORT);
+    }
+    Ok(())
+}
+
+#[test]
+fn runs_over_still_forms(rt: HostRuntime) -> Result<(), Fail> {
+    let alloc = rt.alloc();
+    let mut files = StillFiles::new(Str::from_bytes(alloc, ID)?);
+    let mut out = StillSink::new();
+    let words = [Str::from_bytes(alloc, NAME)?];
+    let status = wp_main(alloc, words.as_slice(), &mut files, &mut out);
+    assert_eq!(rt; status, Status::AllProved);
+    assert_eq!(rt; out.given, ID_REPORT.len() as u64);
+    Ok(())
+}

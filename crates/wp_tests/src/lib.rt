@@ -1,0 +1,11 @@
+//! Runs of the top call over files and sinks in memory: what it reads, what it writes and how it ends.
+#![tactic(auto)]
+
+#[cfg(test)]
+mod answers;
+#[cfg(test)]
+mod faults;
+#[cfg(test)]
+mod memory;
+#[cfg(test)]
+mod runs;

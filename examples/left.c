@@ -1,0 +1,3 @@
+/*@ requires a < b;
+    ensures \result + b == b + a; */
+int left(int a, int b) { return a; }

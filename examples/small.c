@@ -1,0 +1,3 @@
+/*@ requires a < 5;
+    ensures \result < 5; */
+int small(int a) { return a; }

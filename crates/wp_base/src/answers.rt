@@ -130,7 +130,7 @@ impl Status {
     {
         match self {
             Status::AllProved | Status::SomeUnknown | Status::Refused => "",
-            Status::Usage => "usage: wp FILE",
+            Status::Usage => "usage: wp [--goals] FILE",
             Status::ReadFault => "wp: cannot read",
             Status::WriteFault => "wp: cannot write",
             Status::NoMemory => "wp: out of memory",

@@ -3,12 +3,14 @@
 
 mod answers;
 mod boxed;
+mod kinds;
 mod list;
 mod memory;
 mod text;
 
 pub use answers::{Line, Refusal, Rule, Status, Stop};
 pub use boxed::Boxed;
+pub use kinds::{CellKind, Kind, Layout};
 pub use list::List;
 pub use memory::NoMemory;
 pub use text::Str;

@@ -1,6 +1,6 @@
-//! The program as read: functions of `int` parameters, each with a contract and one returned sum.
+//! The program as read: functions of `int` parameters, each with a contract and a body of statements.
 #![tactic(auto)]
 
 mod tree;
 
-pub use tree::{Clause, Comparison, Core, Expr, Function, Pred, SumOp};
+pub use tree::{Clause, Comparison, Core, Expr, Function, Pred, Stmt, SumOp};

@@ -9,7 +9,7 @@ pub enum SumOp {
     Minus,
 }
 
-/// The comparisons of an annotation (ACSL 2.2).
+/// The comparisons of C (C11 6.5.8, 6.5.9) and of annotations (ACSL 2.2).
 #[derive(Clone, Copy, Debug, PartialEq, Eq)]
 pub enum Comparison {
     Less,
@@ -20,13 +20,15 @@ pub enum Comparison {
     NotEqual,
 }
 
-/// An expression of C, or a term of an annotation. A sum has the line of its operator. In an
-/// annotation the name `\result` stands for the returned value; no name of C begins with `\`.
+/// An expression of C, or a term of an annotation. A name has its line, a sum and a comparison that of
+/// the operator. In an annotation the name `\result` stands for the returned value; no name of C begins
+/// with `\`.
 #[derive(Drop)]
 pub enum Expr {
     Number(i128),
-    Name(Str),
+    Name(Str, Line),
     Sum(SumOp, Line, Boxed<Expr>, Boxed<Expr>),
+    Test(Comparison, Line, Boxed<Expr>, Boxed<Expr>),
 }
 
 /// A predicate of an annotation.
@@ -36,6 +38,19 @@ pub enum Pred {
     And(Boxed<Pred>, Boxed<Pred>),
 }
 
+/// A statement (C11 6.8). A local is declared without a value or defined with one, directly in a block;
+/// an `if` without `else` has an empty block there; an assertion has the line of its keyword (ACSL 2.4.1).
+#[derive(Drop)]
+pub enum Stmt {
+    Block(List<Stmt>),
+    Declare(Str),
+    Define(Str, Expr),
+    Assign(Str, Expr),
+    Return(Expr),
+    If(Expr, Boxed<Stmt>, Boxed<Stmt>),
+    Assert(Pred, Line),
+}
+
 /// A clause of a contract, with the line of its keyword.
 #[derive(Drop)]
 pub struct Clause {
@@ -43,14 +58,15 @@ pub struct Clause {
     pub line: Line,
 }
 
-/// A function with its contract, which returns the value of its body.
+/// A function with its contract, and the line of its closing brace.
 #[derive(Drop)]
 pub struct Function {
     pub name: Str,
     pub params: List<Str>,
     pub requires_: List<Clause>,
     pub ensures_: List<Clause>,
-    pub body: Expr,
+    pub body: List<Stmt>,
+    pub end: Line,
 }
 
 /// A program.

@@ -1,2 +1,14 @@
 pub mod Equations
 pub mod Lists
+pub mod Kids
+pub mod Places
+pub mod Turns
+pub mod Sizes
+pub mod Total
+pub mod Injective
+pub mod Freshness
+pub mod Counting
+pub mod Colons
+pub mod FreeNames
+pub mod RowLaws
+pub mod Kept

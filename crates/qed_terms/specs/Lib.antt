@@ -1,3 +1,15 @@
 pub mod Tree
+pub mod Memory
+pub mod Operators
 pub mod Meaning
+pub mod Names
+pub mod WellFormed
+pub mod Setting
+pub mod Order
+pub mod Free
+pub mod Fresh
 pub mod View
+pub mod Nodes
+pub mod Counts
+pub mod Store
+pub mod Rows

@@ -1,5 +1,6 @@
 -- Terms and formulas as plain trees of heads.
-use Rattle.std.specs.Prelude.{List, [], ◌∷◌, ℤ}
+use Rattle.std.specs.Prelude.{ℕ, suc, ◌+◌, List, [], ◌∷◌, ℤ}
+use Rattle.qed_terms.specs.declared.head.Sort.TheVariants as sort
 use Rattle.qed_terms.specs.declared.head.Head.{Head}
 use Rattle.qed_terms.specs.declared.head.Head.TheVariants as h
 use Rattle.qed_terms.specs.declared.head.FormOp.TheVariants as form
@@ -33,10 +34,17 @@ one t = more t stop
 abbrev pub two : Tree → Tree → Trees
 two t u = more t (more u stop)
 
+abbrev pub three : Tree → Tree → Tree → Trees
+three t u v = more t (more u (more v stop))
+
 -- ---- the trees that goals are made of
 
 abbrev pub num : ℤ → Tree
 num z = node (h.Num z) stop
+
+-- a name for an integer
+abbrev pub var : List ℕ → Tree
+var x = node (h.Var x sort.Int) stop
 
 abbrev pub true_tree : Tree
 true_tree = node h.True stop
@@ -53,6 +61,10 @@ less t u = node (h.Form form.Less) (two t u)
 abbrev pub equal : Tree → Tree → Tree
 equal t u = node (h.Form form.Equal) (two t u)
 
+-- the one term where the formula is true, and else the other
+abbrev pub ite : Tree → Tree → Tree → Tree
+ite f t u = node h.Ite (three f t u)
+
 abbrev pub not_of : Tree → Tree
 not_of f = node h.Not (one f)
 
@@ -68,3 +80,12 @@ imp_of f g = node h.Imp (two f g)
 -- under the known facts the check holds
 abbrev pub goal_of : List Tree → Tree → Tree
 goal_of known check = imp_of (and_of known) check
+
+-- how many heads, numbers and names it has
+abbrev mutual
+  pub size : Tree → ℕ
+  size (node head kids) = suc (sizes kids)
+
+  pub sizes : Trees → ℕ
+  sizes stop = 0
+  sizes (more t ts) = size t + sizes ts

@@ -1,11 +1,11 @@
 // The terms and formulas that goals are made of.
-ghost use Rattle.std.specs.Prelude.{◌≡◌, ◌↔◌, [], ◌∷◌, IfOk, IsTrue};
-ghost use Rattle.qed_terms.specs.Tree.{and_of, node, not_of, num, stop, true_tree, two};
+ghost use Rattle.std.specs.Prelude.{◌≡◌, ◌↔◌, [], ◌∷◌, map, IfOk, IsTrue};
+ghost use Rattle.qed_terms.specs.Tree.{and_of, imp_of, ite, node, not_of, num, or_of, true_tree, two, var};
 ghost use Rattle.qed_terms.specs.View.{formula_tree, goal_tree, term_tree};
 ghost use Rattle.qed_terms.specs.declared.head.Head.TheVariants as head;
 
 use crate::copies::copy_formulas;
-use crate::head::{FormOp, TermOp};
+use crate::head::{FormOp, Sort, TermOp};
 use crate::term::{Formula, Goal, Term};
 use std::alloc::Global;
 use wp_base::{Boxed, List, NoMemory, Str};
@@ -27,11 +27,12 @@ impl Term {
         Term::Num(value)
     }
 
+    /// The integer of this name.
     #[tactic(auto, using(crate::proofs::Equations::tree_laws))]
     pub fn name(alloc: Global, name: &Str) -> Result<Term, NoMemory>
-        ensures { IfOk result (λ term. term_tree term ≡ node (head.Var name.now) stop) }
+        ensures { IfOk result (λ term. term_tree term ≡ var name.now) }
     {
-        Ok(Term::Var(name.copy(alloc)?))
+        Ok(Term::Var(name.copy(alloc)?, Sort::Int))
     }
 
     /// A head over two terms.
@@ -40,6 +41,17 @@ impl Term {
         ensures { IfOk result (λ term. term_tree term ≡ node (head.Term op) (two (term_tree left) (term_tree right))) }
     {
         Ok(Term::Op(op, pair(alloc, left, right)?))
+    }
+
+    /// The first term where the condition is true, and else the second.
+    #[tactic(auto, using(crate::proofs::Equations::tree_laws))]
+    pub fn ite(alloc: Global, condition: Formula, left: Term, right: Term) -> Result<Term, NoMemory>
+        ensures { IfOk result (λ term. term_tree term ≡ ite (formula_tree condition) (term_tree left) (term_tree right)) }
+    {
+        let condition = Boxed::new(alloc, condition)?;
+        let left = Boxed::new(alloc, left)?;
+        let right = Boxed::new(alloc, right)?;
+        Ok(Term::Ite(condition, left, right))
     }
 }
 
@@ -59,6 +71,38 @@ impl Formula {
         Ok(Formula::Not(Boxed::new(alloc, part)?))
     }
 
+    /// `and` of two formulas.
+    #[tactic(auto, using(crate::proofs::Equations::tree_laws))]
+    pub fn both(alloc: Global, left: Formula, right: Formula) -> Result<Formula, NoMemory>
+        ensures { IfOk result (λ formula. formula_tree formula ≡ and_of (formula_tree left ∷ formula_tree right ∷ [])) }
+    {
+        Ok(Formula::And(pair(alloc, left, right)?))
+    }
+
+    /// `and` of any number of formulas.
+    #[tactic(auto, using(crate::proofs::Equations::tree_laws))]
+    pub fn and(parts: List<Formula>) -> Formula
+        ensures { formula_tree result ≡ and_of (map formula_tree parts) }
+    {
+        Formula::And(parts)
+    }
+
+    /// `or` of any number of formulas.
+    #[tactic(auto, using(crate::proofs::Equations::tree_laws))]
+    pub fn or(parts: List<Formula>) -> Formula
+        ensures { formula_tree result ≡ or_of (map formula_tree parts) }
+    {
+        Formula::Or(parts)
+    }
+
+    #[tactic(auto, using(crate::proofs::Equations::tree_laws))]
+    pub fn implication(alloc: Global, from: Formula, to: Formula) -> Result<Formula, NoMemory>
+        ensures { IfOk result (λ formula. formula_tree formula ≡ imp_of (formula_tree from) (formula_tree to)) }
+    {
+        let from = Boxed::new(alloc, from)?;
+        Ok(Formula::Imp(from, Boxed::new(alloc, to)?))
+    }
+
     /// Whether the formula is `true`.
     #[tactic(auto, using(crate::proofs::Equations::tree_laws))]
     pub fn is_true(&self) -> bool
@@ -73,15 +117,9 @@ impl Formula {
             Formula::Or(_) => false,
             Formula::Imp(_, _) => false,
             Formula::Iff(_, _) => false,
+            Formula::Forall(_, _, _, _) => false,
+            Formula::Exists(_, _, _, _) => false,
         }
-    }
-
-    /// `and` of two formulas.
-    #[tactic(auto, using(crate::proofs::Equations::tree_laws))]
-    pub fn both(alloc: Global, left: Formula, right: Formula) -> Result<Formula, NoMemory>
-        ensures { IfOk result (λ formula. formula_tree formula ≡ and_of (formula_tree left ∷ formula_tree right ∷ [])) }
-    {
-        Ok(Formula::And(pair(alloc, left, right)?))
     }
 }
 
@@ -92,8 +130,7 @@ impl Goal {
         ensures { IfOk result (λ formula. formula_tree formula ≡ goal_tree self.now) }
     {
         let known = Formula::And(copy_formulas(&self.known, alloc)?);
-        let known = Boxed::new(alloc, known)?;
-        let check = Boxed::new(alloc, self.check.copy(alloc)?)?;
-        Ok(Formula::Imp(known, check))
+        let check = self.check.copy(alloc)?;
+        Formula::implication(alloc, known, check)
     }
 }

@@ -1,0 +1,6 @@
+use Rattle.std.proofs.Common.{rules}
+use Rattle.qed_terms.proofs.Injective.{term_exact}
+use Rattle.qed_terms.proofs.term.Term.is_same.Goals as goal
+
+pub returns-clause-exact : goal.returns-clause-exact
+returns-clause-exact c = term_exact c.args.self.now c.args.other.now c.eq.result (search rules)

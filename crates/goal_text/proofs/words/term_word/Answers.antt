@@ -1,0 +1,7 @@
+use Rattle.std.proofs.Common.{ap, ◌∙◌}
+use Rattle.goal_text.specs.Words.{row_of}
+use Rattle.goal_text.proofs.Naming.{term_rows}
+use Rattle.goal_text.proofs.words.term_word.Goals as goal
+
+pub returns : goal.returns
+returns c = c.row_of.ensures ∙ ap (λ rows. row_of rows c.args.word.now) term_rows

@@ -1,0 +1,19 @@
+//! The text of goals, written and read back.
+#![tactic(auto)]
+
+mod answer;
+mod laws;
+mod layout;
+mod leaves;
+mod read;
+mod scan;
+mod terms;
+#[cfg(test)]
+mod tests;
+mod words;
+mod write;
+
+pub use answer::GoalText;
+pub use laws::{text_determines_goal, through_text};
+pub use read::read_goal;
+pub use write::write_goal;

@@ -1,4 +1,4 @@
--- The trees of terms and formulas, for functions that build them.
+-- Sums that the program builds.
 use Rattle.std.proofs.Common.{◌≡◌, ◌≤◌, List, [], ◌∷◌, map, length, refl, arith}
 use Rattle.qed_terms.specs.declared.head.Head.TheVariants as h
 use Rattle.qed_terms.specs.declared.head.TermOp.TheVariants as op
@@ -6,9 +6,6 @@ use Rattle.qed_terms.specs.declared.term.Term.{Term}
 use Rattle.qed_terms.specs.Tree.{node, trees_of}
 use Rattle.qed_terms.specs.View.{term_tree}
 use Rattle.qed_simplify.specs.Linear.{sum_tree}
-use Rattle.qed_terms.proofs.Equations.{term_tree-Num, term_tree-Var, term_tree-Op, formula_tree-True, formula_tree-False, formula_tree-Rel, formula_tree-Not, formula_tree-And, formula_tree-Or, formula_tree-Imp, formula_tree-Iff}
-
-pub ruleset tree_laws = (term_tree-Num, term_tree-Var, term_tree-Op, formula_tree-True, formula_tree-False, formula_tree-Rel, formula_tree-Not, formula_tree-And, formula_tree-Or, formula_tree-Imp, formula_tree-Iff)
 
 -- a sum of two terms and more
 pub sum_long : (ts : List Term) → 2 ≤ length ts → sum_tree (map term_tree ts) ≡ node (h.Term op.Add) (trees_of (map term_tree ts))

@@ -1,9 +1,9 @@
--- The normal form is one tree and its own normal form; where each step keeps a value that goes by heads, so does the normal form.
+-- The normal form is one tree and its own normal form; where each step keeps the meaning, so does the normal form.
 use Rattle.std.proofs.Common.{◌≡◌, ◌⊎◌, refl, sym, ◌∙◌, ap, inl, inr, subst}
 use Rattle.std.specs.Prelude.{Option, Some, None}
 use Rattle.qed_terms.specs.declared.head.Head.{Head}
 use Rattle.qed_terms.specs.Tree.{Tree, node, Trees, stop, more, head_of, kids_in}
-use Rattle.qed_terms.specs.Meaning.{Values, meaning, meanings, head_value}
+use Rattle.qed_terms.specs.Meaning.{World, Values, meaning, meanings, head_meaning}
 use Rattle.qed_simplify.specs.Normal.{Normal, Normals, stays, changes, nothing, each}
 
 module _ (step : Tree → Option Tree) where
@@ -97,13 +97,16 @@ module _ (step : Tree → Option Tree) where
     fixed-normals stop f = nothing
     fixed-normals (more t ts) f = each (fixed-normal t f.0) (fixed-normals ts f.1)
 
-  -- where each step keeps the meaning, so does the normal form
-  module _ (env : Values) (keeps : (head : Head) (ts : Trees) (w : Tree) → AllFixed ts → step (node head ts) ≡ Some w → meaning env w ≡ meaning env (node head ts)) where
-    mutual
-      pub normal_keeps : {t u : Tree} → Normal step t u → meaning env u ≡ meaning env t
-      normal_keeps (stays {head} ks e) = ap (head_value env head) (normals_keep ks)
-      normal_keeps (changes {head} {ts} {us} {w} ks e d) = normal_keeps d ∙ keeps head us w (normals-fixed ks) e ∙ ap (head_value env head) (normals_keep ks)
+  -- where each step keeps the meaning under all values, so does the normal form
+  module _ (world : World) (keeps : (head : Head) (ts : Trees) (w : Tree) → AllFixed ts → step (node head ts) ≡ Some w → (env : Values) → meaning world env w ≡ meaning world env (node head ts)) where
+    over_alike : (head : Head) (ts us : Trees) → ((env : Values) → meanings world env us ≡ meanings world env ts) → (env : Values) → meaning world env (node head us) ≡ meaning world env (node head ts)
+    over_alike head ts us alike env = λ i. head_meaning world head (λ env'. alike env' i) env
 
-      normals_keep : {ts us : Trees} → Normals step ts us → meanings env us ≡ meanings env ts
-      normals_keep nothing = refl
-      normals_keep (each d ds) = let a = normal_keeps d in let b = normals_keep ds in cc
+    mutual
+      pub normal_keeps : {t u : Tree} → Normal step t u → (env : Values) → meaning world env u ≡ meaning world env t
+      normal_keeps (stays {head} {ts} {us} ks e) env = over_alike head ts us (λ env'. normals_keep ks env') env
+      normal_keeps (changes {head} {ts} {us} {w} ks e d) env = normal_keeps d env ∙ keeps head us w (normals-fixed ks) e env ∙ over_alike head ts us (λ env'. normals_keep ks env') env
+
+      normals_keep : {ts us : Trees} → Normals step ts us → (env : Values) → meanings world env us ≡ meanings world env ts
+      normals_keep nothing env = refl
+      normals_keep (each d ds) env = let a = normal_keeps d env in let b = normals_keep ds env in cc

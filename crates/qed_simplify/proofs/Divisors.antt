@@ -5,8 +5,8 @@ use Rattle.std.proofs.lemmas.Int.{unsigned_abs-mul}
 use Rattle.std.proofs.lemmas.Nat.Gcd.{same_from_IsGcd, IsGcd-from_zero, IsGcd-from_mod, dvd-zero, dvd_trans, le_of_dvd}
 use Rattle.std.proofs.Math.Nat.{div-mul_cancel, mul-dvd-mul_right, div-le_self, div-lt_iff_lt-mul, le-mul_of_pos_right, suc-mul, eq-zero_of_zero-dvd}
 use Rattle.qed_terms.specs.Tree.{Tree, head_of}
-use Rattle.qed_terms.specs.Meaning.{is_zero}
-use Rattle.qed_simplify.specs.Linear.{fits, Part, Lin, part, lin, is_number, is_term, parts_hold, times_parts, gcd_within, gcd, divisor, divided, rounded_up, divides, tight, exact}
+use Rattle.qed_terms.specs.Operators.{is_zero}
+use Rattle.qed_simplify.specs.Linear.{fits, Part, Lin, part, lin, is_number, is_integer, parts_hold, times_parts, gcd_within, gcd, divisor, divided, rounded_up, divides, tight, exact}
 use Rattle.qed_simplify.proofs.Facts.{and_left, and_right, some_size, sized}
 use Rattle.qed_simplify.proofs.Linears.{AllAfter, Good, GoodLin}
 
@@ -142,10 +142,10 @@ up_fits (negsuc n) d p k = div_fits (negsuc n) d k
 divided_hold : (d : ℕ) (ps : List Part) → parts_hold ps ≡ true → parts_hold (divided d ps) ≡ true
 divided_hold d [] k = refl
 divided_hold d (p ∷ ps) k =
-    let q = and_left (fits (p.times) && is_term (head_of (p.atom))) (parts_hold ps) k in
-    let a = div_fits (p.times) d (and_left (fits (p.times)) (is_term (head_of (p.atom))) q) in
-    let b = and_right (fits (p.times)) (is_term (head_of (p.atom))) q in
-    let c = divided_hold d ps (and_right (fits (p.times) && is_term (head_of (p.atom))) (parts_hold ps) k) in
+    let q = and_left (fits (p.times) && is_integer (head_of (p.atom))) (parts_hold ps) k in
+    let a = div_fits (p.times) d (and_left (fits (p.times)) (is_integer (head_of (p.atom))) q) in
+    let b = and_right (fits (p.times)) (is_integer (head_of (p.atom))) q in
+    let c = divided_hold d ps (and_right (fits (p.times) && is_integer (head_of (p.atom))) (parts_hold ps) k) in
     λ i. (a i && b i) && c i
 
 -- ---- after division the divisor is 1

@@ -2,7 +2,7 @@
 use Rattle.std.proofs.Common.{◌≡◌, ℕ, zero, suc, ◌*◌, ◌≤◌, Bool, true, false, ◌&&◌, ◌||◌, ◌⊎◌, inl, inr, ℤ, pos, negsuc, ◌-ℤ◌, ◌*ℤ◌, unsigned_abs, refl, arith, Option, Some, None}
 use Rattle.std.proofs.lemmas.Int.{ints, unsigned_abs-mul}
 use Rattle.qed_terms.specs.Tree.{Tree}
-use Rattle.qed_terms.specs.Meaning.{is_zero, is_equal}
+use Rattle.qed_terms.specs.Operators.{is_zero, is_equal}
 use Rattle.qed_simplify.specs.Rules.{where_so, first_some}
 
 pub and_left : (p q : Bool) → p && q ≡ true → p ≡ true

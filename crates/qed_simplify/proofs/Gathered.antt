@@ -4,17 +4,14 @@ use Rattle.std.specs.Prelude.{Some, None}
 use Rattle.std.specs.Int.{w128}
 use Rattle.std.proofs.lemmas.Int.{ints}
 use Rattle.std.proofs.lemmas.List.{get_or_read}
-use Rattle.qed_terms.specs.declared.term.Term.{Term, Term-F, roll-Term, ind-Term}
-use Rattle.qed_terms.specs.declared.term.Term.TheVariants as t
-use Rattle.qed_terms.proofs.Equations.{term_tree-Num, term_tree-Var, term_tree-Op}
 use Rattle.qed_terms.specs.Tree.{Tree, head_of}
-use Rattle.qed_terms.specs.Meaning.{is_zero}
+use Rattle.qed_terms.specs.Operators.{is_zero}
 use Rattle.qed_terms.specs.View.{term_tree}
 use Rattle.qed_simplify.specs.declared.forms.LinPart.{LinPart}
 use Rattle.qed_simplify.specs.declared.forms.LinForm.{LinForm}
 use Rattle.qed_simplify.specs.declared.sums.WidePart.{WidePart}
-use Rattle.qed_simplify.specs.Order.{tree_cmp}
-use Rattle.qed_simplify.specs.Linear.{fits, Part, Lin, part, lin, number, at_order, keep, into, merged, plus, total_lin, times_parts, scaled, is_term, parts_hold, cut}
+use Rattle.qed_terms.specs.Order.{tree_cmp}
+use Rattle.qed_simplify.specs.Linear.{fits, Part, Lin, part, lin, number, at_order, keep, into, merged, plus, total_lin, times_parts, scaled, is_integer, parts_hold, cut}
 use Rattle.qed_simplify.specs.View.{part_of, parts_of, lin_of, wide_value, wide_part, wide_parts, signed_value, signed}
 use Rattle.qed_simplify.proofs.Facts.{zero_is}
 use Rattle.qed_simplify.proofs.Places.{one_off, take_one, map_append}
@@ -154,36 +151,29 @@ signed_more b ws ws' xs i x a c k p e f h g =
 
 -- ---- numbers cut to 128 bits
 
-term_core : (y : Term-F Term) → is_term (head_of (term_tree (roll-Term y))) ≡ true
-term_core (Term-F.Num z) = ap (λ t. is_term (head_of t)) (ap term_tree (t.rolls-Num z) ∙ term_tree-Num z)
-term_core (Term-F.Var x) = ap (λ t. is_term (head_of t)) (ap term_tree (t.rolls-Var x) ∙ term_tree-Var x)
-term_core (Term-F.Op o ts) = ap (λ t. is_term (head_of t)) (ap term_tree (t.rolls-Op o ts) ∙ term_tree-Op o ts)
-
-pub term_is : (x : Term) → is_term (head_of (term_tree x)) ≡ true
-term_is = ind-Term (λ x. is_term (head_of (term_tree x)) ≡ true) (λ x y is. term_core x)
-
 hold_append : (ps qs : List Part) → parts_hold (ps ++ qs) ≡ parts_hold ps && parts_hold qs
 hold_append [] qs = refl
-hold_append (p ∷ ps) qs = ap (λ b. (fits (p.times) && is_term (head_of (p.atom))) && b) (hold_append ps qs) ∙ assoc (fits (p.times) && is_term (head_of (p.atom))) (parts_hold ps) (parts_hold qs)
+hold_append (p ∷ ps) qs = ap (λ b. (fits (p.times) && is_integer (head_of (p.atom))) && b) (hold_append ps qs) ∙ assoc (fits (p.times) && is_integer (head_of (p.atom))) (parts_hold ps) (parts_hold qs)
   where
     assoc : (x y z : Bool) → x && (y && z) ≡ (x && y) && z
     assoc true y z = refl
     assoc false y z = refl
 
-pub hold_more : (ps qs : List Part) (a : Term) (c : ℤ) → parts_hold ps ≡ true → FitsSigned w128 c → qs ≡ ps ++ part (term_tree a) c ∷ [] → parts_hold qs ≡ true
-hold_more ps qs a c h f e =
+pub hold_more : (ps qs : List Part) (a : Tree) (c : ℤ) → parts_hold ps ≡ true → is_integer (head_of a) ≡ true → FitsSigned w128 c → qs ≡ ps ++ part a c ∷ [] → parts_hold qs ≡ true
+hold_more ps qs a c h y f e =
     let x = fits_from c f in
-    let y = term_is a in
-    ap parts_hold e ∙ hold_append ps (part (term_tree a) c ∷ []) ∙ (λ i. h i && ((x i && y i) && true))
+    ap parts_hold e ∙ hold_append ps (part a c ∷ []) ∙ (λ i. h i && ((x i && y i) && true))
 
 and_false : (a b : Bool) → b ≡ false → a && b ≡ false
 and_false true b e = e
 and_false false b e = refl
 
-unhold : (ps qs : List Part) (a : Tree) (c : ℤ) → (FitsSigned w128 c → ⊥) → parts_hold (ps ++ part a c ∷ qs) ≡ false
-unhold ps qs a c f =
-    hold_append ps (part a c ∷ qs)
-    ∙ and_false (parts_hold ps) (parts_hold (part a c ∷ qs)) (ap (λ b. (b && is_term (head_of a)) && parts_hold qs) (unfit c f))
+-- a part that isn't an integer, or has a coefficient that doesn't fit
+unhold : (ps qs : List Part) (a : Tree) (c : ℤ) → fits c && is_integer (head_of a) ≡ false → parts_hold (ps ++ part a c ∷ qs) ≡ false
+unhold ps qs a c f = hold_append ps (part a c ∷ qs) ∙ and_false (parts_hold ps) (parts_hold (part a c ∷ qs)) (ap (λ b. b && parts_hold qs) f)
+
+too_wide : (a : Tree) (c : ℤ) → (FitsSigned w128 c → ⊥) → fits c && is_integer (head_of a) ≡ false
+too_wide a c f = ap (λ b. b && is_integer (head_of a)) (unfit c f)
 
 cut_fails : (f : Lin) → parts_hold (f.parts) ≡ false → None ≡ cut f
 cut_fails f e = sym (ap (λ b. cond (b && fits (f.constant)) (Some f) None) e)
@@ -202,9 +192,16 @@ narrowed_more ls ls' w ws ws' all a c h e f g k =
     ap (λ ps. ps ++ wide_parts ws') (k ∙ (λ i. parts_of ls ++ part (f i) (g i) ∷ [])) ∙ append_assoc (parts_of ls) (wide_part w ∷ []) (wide_parts ws')
     ∙ sym (ap (λ vs. parts_of ls ++ wide_parts vs) e) ∙ h
 
-pub narrow_fails : (ls : List LinPart) (w : WidePart) (ws ws' all : List WidePart) (c : ℤ) → parts_of ls ++ wide_parts ws ≡ wide_parts all → ws ≡ w ∷ ws' → (FitsSigned w128 (wide_value w.times) → ⊥) → None ≡ cut (lin (wide_parts all) c)
-narrow_fails ls w ws ws' all c h e k =
+narrow_stops : (ls : List LinPart) (w : WidePart) (ws ws' all : List WidePart) (c : ℤ) → parts_of ls ++ wide_parts ws ≡ wide_parts all → ws ≡ w ∷ ws' → fits (wide_value w.times) && is_integer (head_of (term_tree w.atom)) ≡ false
+    → None ≡ cut (lin (wide_parts all) c)
+narrow_stops ls w ws ws' all c h e k =
     cut_fails (lin (wide_parts all) c) (ap parts_hold (sym h ∙ ap (λ vs. parts_of ls ++ wide_parts vs) e) ∙ unhold (parts_of ls) (wide_parts ws') (term_tree w.atom) (wide_value w.times) k)
+
+pub narrow_fails : (ls : List LinPart) (w : WidePart) (ws ws' all : List WidePart) (c : ℤ) → parts_of ls ++ wide_parts ws ≡ wide_parts all → ws ≡ w ∷ ws' → (FitsSigned w128 (wide_value w.times) → ⊥) → None ≡ cut (lin (wide_parts all) c)
+narrow_fails ls w ws ws' all c h e k = narrow_stops ls w ws ws' all c h e (too_wide (term_tree w.atom) (wide_value w.times) k)
+
+pub narrow_refuses : (ls : List LinPart) (w : WidePart) (ws ws' all : List WidePart) (c : ℤ) → parts_of ls ++ wide_parts ws ≡ wide_parts all → ws ≡ w ∷ ws' → is_integer (head_of (term_tree w.atom)) ≡ false → None ≡ cut (lin (wide_parts all) c)
+narrow_refuses ls w ws ws' all c h e k = narrow_stops ls w ws ws' all c h e (and_false (fits (wide_value w.times)) (is_integer (head_of (term_tree w.atom))) k)
 
 pub narrow_done : (ls : List LinPart) (ws all : List WidePart) (c d : ℤ) → parts_of ls ++ wide_parts ws ≡ wide_parts all → ws ≡ [] → parts_hold (parts_of ls) ≡ true → c ≡ d → FitsSigned w128 c → Some (lin (parts_of ls) c) ≡ cut (lin (wide_parts all) d)
 narrow_done ls ws all c d h e k f g =
@@ -233,13 +230,20 @@ scaled_is c f n = go (is_zero c) refl
 pub scale_zero : (c : ℤ) (f : Lin) → c ≡ pos 0 → Some (number (pos 0)) ≡ cut (scaled c f)
 scale_zero c f e = cut_done (scaled c f) (number (pos 0)) (sym (ap (λ z. scaled z f) e)) refl (record { sfits = omega arith })
 
-pub scale_fails : (c : ℤ) (f : LinForm) (i : ℕ) (x : LinPart) → (c ≡ pos 0 → ⊥) → i < length f.parts.items → x ≡ get_or f.parts.items i x → (FitsSigned w128 (c *ℤ x.times) → ⊥) → None ≡ cut (scaled c (lin_of f))
-scale_fails c f i x n k p u =
+scale_stops : (c : ℤ) (f : LinForm) (i : ℕ) (x : LinPart) → (c ≡ pos 0 → ⊥) → i < length f.parts.items → x ≡ get_or f.parts.items i x → fits (c *ℤ x.times) && is_integer (head_of (term_tree x.atom)) ≡ false
+    → None ≡ cut (scaled c (lin_of f))
+scale_stops c f i x n k p u =
     let xs = f.parts.items in
     let split = sym (take-append-drop i xs) ∙ ap (λ ys. take i xs ++ ys) (one_off xs i x k p) in
     let all = ap (λ ys. times_parts c (parts_of ys)) split ∙ ap (times_parts c) (map_append part_of (take i xs) (x ∷ drop (i + 1) xs)) ∙ times_append c (parts_of (take i xs)) (parts_of (x ∷ drop (i + 1) xs)) in
     cut_fails (lin (times_parts c (parts_of xs)) (c *ℤ f.constant)) (ap parts_hold all ∙ unhold (times_parts c (parts_of (take i xs))) (times_parts c (parts_of (drop (i + 1) xs))) (term_tree x.atom) (c *ℤ x.times) u)
     ∙ ap cut (sym (scaled_is c (lin_of f) n))
+
+pub scale_fails : (c : ℤ) (f : LinForm) (i : ℕ) (x : LinPart) → (c ≡ pos 0 → ⊥) → i < length f.parts.items → x ≡ get_or f.parts.items i x → (FitsSigned w128 (c *ℤ x.times) → ⊥) → None ≡ cut (scaled c (lin_of f))
+scale_fails c f i x n k p u = scale_stops c f i x n k p (too_wide (term_tree x.atom) (c *ℤ x.times) u)
+
+pub scale_refuses : (c : ℤ) (f : LinForm) (i : ℕ) (x : LinPart) → (c ≡ pos 0 → ⊥) → i < length f.parts.items → x ≡ get_or f.parts.items i x → is_integer (head_of (term_tree x.atom)) ≡ false → None ≡ cut (scaled c (lin_of f))
+scale_refuses c f i x n k p u = scale_stops c f i x n k p (and_false (fits (c *ℤ x.times)) (is_integer (head_of (term_tree x.atom))) u)
 
 pub scale_last_fails : (c : ℤ) (f : LinForm) → (c ≡ pos 0 → ⊥) → (FitsSigned w128 (c *ℤ f.constant) → ⊥) → None ≡ cut (scaled c (lin_of f))
 scale_last_fails c f n u = last_fails (lin (times_parts c (parts_of f.parts.items)) (c *ℤ f.constant)) u ∙ ap cut (sym (scaled_is c (lin_of f) n))

@@ -1,18 +1,21 @@
 -- Each rule keeps the meaning.
-use Rattle.std.proofs.Common.{◌≡◌, inl, inr, Bool, true, false, not, ◌&&◌, ◌||◌, cond, ℤ, pos, ◌+ℤ◌, ◌-ℤ◌, int_le, List, [], ◌∷◌, ◌++◌, map, refl, sym, ◌∙◌, ap}
+use Rattle.std.proofs.Common.{◌≡◌, ℕ, zero, suc, inl, inr, Bool, true, false, not, ◌&&◌, ◌||◌, cond, ℤ, pos, ◌+ℤ◌, ◌-ℤ◌, int_le, List, [], ◌∷◌, ◌++◌, map, refl, sym, ◌∙◌, ap}
 use Rattle.std.specs.Prelude.{Option, Some, None}
 use Rattle.qed_terms.specs.declared.head.Head.{Head}
 use Rattle.qed_terms.specs.declared.head.Head.TheVariants as h
 use Rattle.qed_terms.specs.declared.head.TermOp.TheVariants as op
 use Rattle.qed_terms.specs.declared.head.FormOp.TheVariants as form
-use Rattle.qed_terms.specs.Tree.{Tree, node, Trees, stop, more, trees_of, list_of, head_of, kids_in, two, num, at_most, equal, true_tree, false_tree, not_of}
-use Rattle.qed_terms.specs.Meaning.{Values, Value, Whole, Truth, is_so, is_zero, is_equal, value, truth, meaning, meanings, each_true, some_true, same_truth}
+use Rattle.qed_terms.specs.declared.head.Sort.TheVariants as sort
+use Rattle.qed_terms.specs.Tree.{Tree, node, Trees, stop, more, trees_of, list_of, head_of, kids_in, two, three, num, at_most, equal, true_tree, false_tree, not_of}
+use Rattle.qed_terms.specs.Operators.{is_zero, is_equal}
+use Rattle.qed_terms.specs.Memory.{to_nat, same_truth}
+use Rattle.qed_terms.specs.Meaning.{World, Values, with_int, Value, Whole, Truth, is_so, value, truth, meaning, meanings, each_true, some_true, all_from, some_from}
 use Rattle.qed_terms.proofs.Lists.{trees_of-list_of}
-use Rattle.qed_simplify.specs.Order.{same}
-use Rattle.qed_simplify.specs.Linear.{fits, Part, Lin, lin, number, is_number, part_tree, sum_tree, of_lin, minus, is_term, parts_hold, cut, own_form, lower, lowers, divisor, divides, tight, exact, turned}
-use Rattle.qed_simplify.specs.Rules.{Rule, is_formula, differs, changed, sums, truth_tree, at_most_zero, is_zero_form, at_most_tree, equal_tree, less_rule, at_most_rule, equal_rule, imp_rule, iff_rule, nots, option_tree, flipped, inward, not_rule, joint, is_joint, is_truth, has, among, among_some, flattened, without_units, has_repeat, fresh, is_opposed, flatten, absorb, drop_units, drop_repeats, oppose, alone, at_joints, first_of_rules, table, step}
+use Rattle.qed_terms.specs.Order.{same}
+use Rattle.qed_simplify.specs.Linear.{fits, Part, Lin, lin, number, is_number, part_tree, sum_tree, of_lin, minus, is_integer, parts_hold, cut, own_form, lower, lowers, divisor, divides, tight, exact, turned}
+use Rattle.qed_simplify.specs.Rules.{Rule, is_formula, differs, changed, sums, arm, chosen_arm, truth_tree, at_most_zero, is_zero_form, at_most_tree, equal_tree, less_rule, at_most_rule, equal_rule, imp_rule, iff_rule, nots, option_tree, flipped, inward, not_rule, joint, is_joint, is_truth, has, among, among_some, flattened, without_units, has_repeat, fresh, is_opposed, flatten, absorb, drop_units, drop_repeats, oppose, alone, at_joints, first_of_rules, table, step}
 use Rattle.qed_simplify.proofs.Facts.{and_left, and_right, or_either, so_is, either}
-use Rattle.qed_simplify.proofs.Total.{same_exact}
+use Rattle.qed_terms.proofs.Total.{same_exact}
 use Rattle.qed_simplify.proofs.Rounding.{le_difference, lt_more, not_le, zero_less}
 use Rattle.qed_simplify.proofs.Derived.{Fixed, AllFixed}
 use Rattle.qed_simplify.proofs.Linears.{Good, cut_good, minus_good, lower_good, own_good, lowers_good}
@@ -88,25 +91,47 @@ both_ways true false = refl
 both_ways false true = refl
 both_ways false false = refl
 
-module _ (env : Values) where
+-- some number fails exactly where not all pass
+some_not : (z : ℤ) (n : ℕ) (test : ℤ → Bool) → some_from z n (λ y. not (test y)) ≡ not (all_from z n test)
+some_not z zero test = refl
+some_not z (suc n) test = ap (λ b. not (test z) || b) (some_not (z +ℤ pos 1) n test) ∙ sym (not_and (test z) (all_from (z +ℤ pos 1) n test))
+
+all_not : (z : ℤ) (n : ℕ) (test : ℤ → Bool) → all_from z n (λ y. not (test y)) ≡ not (some_from z n test)
+all_not z zero test = refl
+all_not z (suc n) test = ap (λ b. not (test z) && b) (all_not (z +ℤ pos 1) n test) ∙ sym (not_or (test z) (some_from (z +ℤ pos 1) n test))
+
+module _ (world : World) (env : Values) where
   abbrev M : Tree → Value
-  M = meaning env
+  M = meaning world env
+
+  abbrev V : Tree → ℤ
+  V = value world env
+
+  abbrev so : Tree → Bool
+  so = truth world env
 
   abbrev Keeps : Rule → Type 0
   Keeps r = (head : Head) (ts : Trees) (w : Tree) → AllFixed step ts → r head ts ≡ Some w → M w ≡ M (node head ts)
 
   -- ---- sorts
 
-  term_whole : (t : Tree) → is_term (head_of t) ≡ true → M t ≡ Whole (value env t)
-  term_whole (node (h.Num z) ts) k = refl
-  term_whole (node (h.Var x) ts) k = refl
-  term_whole (node (h.Term o) ts) k = refl
-  term_whole (node head ts) k = absurd cc
+  integer_whole : (t : Tree) → is_integer (head_of t) ≡ true → M t ≡ Whole (V t)
+  integer_whole (node (h.Num z) ts) k = refl
+  integer_whole (node (h.Var x sort.Int) ts) k = refl
+  integer_whole (node (h.Term op.Store) ts) k = absurd cc
+  integer_whole (node (h.Term (op.Alloc layout)) ts) k = absurd cc
+  integer_whole (node (h.Term op.Grow) ts) k = absurd cc
+  integer_whole (node (h.Term o) ts) k = refl
+  integer_whole (node h.Ite ts) k = refl
+  integer_whole (node (h.App f) ts) k = refl
+  integer_whole (node head ts) k = absurd cc
 
-  formula_truth : (t : Tree) → is_formula (head_of t) ≡ true → M t ≡ Truth (truth env t)
+  formula_truth : (t : Tree) → is_formula (head_of t) ≡ true → M t ≡ Truth (so t)
   formula_truth (node (h.Num z) ts) k = absurd cc
-  formula_truth (node (h.Var x) ts) k = absurd cc
+  formula_truth (node (h.Var x s) ts) k = absurd cc
   formula_truth (node (h.Term o) ts) k = absurd cc
+  formula_truth (node h.Ite ts) k = absurd cc
+  formula_truth (node (h.App f) ts) k = absurd cc
   formula_truth (node head ts) k = refl
 
   truth_means : (b : Bool) → M (truth_tree b) ≡ Truth b
@@ -122,30 +147,33 @@ module _ (env : Values) where
 
   -- ---- linear sums
 
-  part_term : (p : Part) → is_term (head_of (p.atom)) ≡ true → is_term (head_of (part_tree p)) ≡ true
-  part_term p k = go (is_equal (p.times) (pos 1))
+  part_integer : (p : Part) → is_integer (head_of (p.atom)) ≡ true → is_integer (head_of (part_tree p)) ≡ true
+  part_integer p k = go (is_equal (p.times) (pos 1))
     where
-      go : (b : Bool) → is_term (head_of (cond b (p.atom) (node (h.Term op.Mul) (two (num (p.times)) (p.atom))))) ≡ true
+      go : (b : Bool) → is_integer (head_of (cond b (p.atom) (node (h.Term op.Mul) (two (num (p.times)) (p.atom))))) ≡ true
       go true = k
       go false = refl
 
-  of_lin_term : (ps : List Part) (c : ℤ) → parts_hold ps ≡ true → is_term (head_of (of_lin (lin ps c))) ≡ true
-  of_lin_term [] c k = go (is_zero c)
+  of_lin_integer : (ps : List Part) (c : ℤ) → parts_hold ps ≡ true → is_integer (head_of (of_lin (lin ps c))) ≡ true
+  of_lin_integer [] c k = go (is_zero c)
     where
-      go : (b : Bool) → is_term (head_of (sum_tree (cond b [] (num c ∷ [])))) ≡ true
+      go : (b : Bool) → is_integer (head_of (sum_tree (cond b [] (num c ∷ [])))) ≡ true
       go true = refl
       go false = refl
-  of_lin_term (p ∷ []) c k = go (is_zero c)
+  of_lin_integer (p ∷ []) c k = go (is_zero c)
     where
-      go : (b : Bool) → is_term (head_of (sum_tree (part_tree p ∷ cond b [] (num c ∷ [])))) ≡ true
-      go true = part_term p (and_right (fits (p.times)) (is_term (head_of (p.atom))) (and_left (fits (p.times) && is_term (head_of (p.atom))) true k))
+      go : (b : Bool) → is_integer (head_of (sum_tree (part_tree p ∷ cond b [] (num c ∷ [])))) ≡ true
+      go true = part_integer p (and_right (fits (p.times)) (is_integer (head_of (p.atom))) (and_left (fits (p.times) && is_integer (head_of (p.atom))) true k))
       go false = refl
-  of_lin_term (p ∷ q ∷ ps) c k = refl
+  of_lin_integer (p ∷ q ∷ ps) c k = refl
 
-  own_term : (head : Head) (fs : List Lin) (g : Lin) → own_form head fs ≡ Some g → (ts : Trees) → M (node head ts) ≡ Whole (value env (node head ts))
-  own_term (h.Num z) fs g e ts = refl
-  own_term (h.Term o) fs g e ts = refl
-  own_term head fs g e ts = absurd cc
+  own_integer : (head : Head) (fs : List Lin) (g : Lin) → own_form head fs ≡ Some g → (ts : Trees) → M (node head ts) ≡ Whole (V (node head ts))
+  own_integer (h.Num z) fs g e ts = refl
+  own_integer (h.Term op.Store) fs g e ts = absurd cc
+  own_integer (h.Term (op.Alloc layout)) fs g e ts = absurd cc
+  own_integer (h.Term op.Grow) fs g e ts = absurd cc
+  own_integer (h.Term o) fs g e ts = refl
+  own_integer head fs g e ts = absurd cc
 
   keeps_sums : Keeps sums
   keeps_sums head ts w f k = go (own_form head (lowers ts)) refl k
@@ -154,39 +182,61 @@ module _ (env : Values) where
       go None e r = absurd cc
       go (Some g) e r =
           let good = own_good head (lowers ts) g (lowers_good ts f) e in
-          ap M (sym (differs_is (of_lin g) (node head ts) w r)) ∙ term_whole (of_lin g) (of_lin_term (g.parts) (g.constant) good.1)
-          ∙ ap Whole (of_lin_value env g ∙ own_form_value env head ts g e) ∙ sym (own_term head (lowers ts) g e ts)
+          ap M (sym (differs_is (of_lin g) (node head ts) w r)) ∙ integer_whole (of_lin g) (of_lin_integer (g.parts) (g.constant) good.1)
+          ∙ ap Whole (of_lin_value world env g ∙ own_form_value world env head ts g e) ∙ sym (own_integer head (lowers ts) g e ts)
+
+  -- ---- chosen arm
+
+  same_arm : (t u : Tree) → same t u && is_integer (head_of t) ≡ true → (V t ≡ V u) × (is_integer (head_of t) ≡ true)
+  same_arm t u k = (ap V (same_exact t u (and_left (same t u) (is_integer (head_of t)) k)), and_right (same t u) (is_integer (head_of t)) k)
+
+  -- both arms mean the same
+  either_arm : (b : Bool) (t u : Tree) → V t ≡ V u → V t ≡ cond b (V t) (V u)
+  either_arm true t u e = refl
+  either_arm false t u e = e
+
+  arm_means : (f t u w : Tree) → arm (head_of f) t u ≡ Some w → M w ≡ Whole (cond (so f) (V t) (V u))
+  arm_means (node h.True ts) t u w k = let p = so_is (is_integer (head_of t)) t w k in ap M (sym p.1) ∙ integer_whole t p.0
+  arm_means (node h.False ts) t u w k = let p = so_is (is_integer (head_of u)) u w k in ap M (sym p.1) ∙ integer_whole u p.0
+  arm_means (node head ts) t u w k =
+      let p = so_is (same t u && is_integer (head_of t)) t w k in
+      let a = same_arm t u p.0 in
+      ap M (sym p.1) ∙ integer_whole t a.1 ∙ ap Whole (either_arm (so (node head ts)) t u a.0)
+
+  keeps_arm : Keeps chosen_arm
+  keeps_arm h.Ite (more f (more t (more u stop))) w k e = arm_means f t u w e
+  keeps_arm head ts w f k = absurd cc
 
   -- ---- relations
 
-  at_most_zero_means : (g : Lin) → M (at_most_zero g) ≡ Truth (int_le (value_of env g) (pos 0))
-  at_most_zero_means g = ap (λ z. Truth (int_le z (pos 0))) (of_lin_value env g)
+  at_most_zero_means : (g : Lin) → M (at_most_zero g) ≡ Truth (int_le (value_of world env g) (pos 0))
+  at_most_zero_means g = ap (λ z. Truth (int_le z (pos 0))) (of_lin_value world env g)
 
-  at_most_means : (g : Lin) → Good (g.parts) → M (at_most_tree g) ≡ Truth (int_le (value_of env g) (pos 0))
+  at_most_means : (g : Lin) → Good (g.parts) → M (at_most_tree g) ≡ Truth (int_le (value_of world env g) (pos 0))
   at_most_means g k = go (is_number g) refl
     where
-      go : (b : Bool) → is_number g ≡ b → M (cond b (truth_tree (int_le (g.constant) (pos 0))) (at_most_zero (tight g))) ≡ Truth (int_le (value_of env g) (pos 0))
-      go true e = truth_means (int_le (g.constant) (pos 0)) ∙ ap (λ z. Truth (int_le z (pos 0))) (sym (number_value env g e))
-      go false e = at_most_zero_means (tight g) ∙ ap Truth (tight_value env g k e)
+      go : (b : Bool) → is_number g ≡ b → M (cond b (truth_tree (int_le (g.constant) (pos 0))) (at_most_zero (tight g))) ≡ Truth (int_le (value_of world env g) (pos 0))
+      go true e = truth_means (int_le (g.constant) (pos 0)) ∙ ap (λ z. Truth (int_le z (pos 0))) (sym (number_value world env g e))
+      go false e = at_most_zero_means (tight g) ∙ ap Truth (tight_value world env g k e)
 
-  zero_means : (g : Lin) → M (is_zero_form g) ≡ Truth (is_zero (value_of env g))
-  zero_means g = ap (λ z. Truth (is_equal z (pos 0))) (of_lin_value env g) ∙ ap Truth (zero_less (value_of env g))
+  zero_means : (g : Lin) → M (is_zero_form g) ≡ Truth (is_zero (value_of world env g))
+  zero_means g = ap (λ z. Truth (is_equal z (pos 0))) (of_lin_value world env g) ∙ ap Truth (zero_less (value_of world env g))
 
-  equal_means : (g : Lin) → Good (g.parts) → M (equal_tree g) ≡ Truth (is_zero (value_of env g))
+  equal_means : (g : Lin) → Good (g.parts) → M (equal_tree g) ≡ Truth (is_zero (value_of world env g))
   equal_means g k = go (is_number g) (divides (divisor (g.parts)) (g.constant)) refl refl
     where
       go : (b c : Bool) → is_number g ≡ b → divides (divisor (g.parts)) (g.constant) ≡ c
-          → M (cond b (truth_tree (is_zero (g.constant))) (cond c (is_zero_form (turned (exact g))) false_tree)) ≡ Truth (is_zero (value_of env g))
-      go true c e d = truth_means (is_zero (g.constant)) ∙ ap (λ z. Truth (is_zero z)) (sym (number_value env g e))
-      go false true e d = zero_means (turned (exact g)) ∙ ap Truth (turned_value env (exact g) ∙ exact_value env g k e d)
-      go false false e d = ap Truth (sym (never_zero env g d))
+          → M (cond b (truth_tree (is_zero (g.constant))) (cond c (is_zero_form (turned (exact g))) false_tree)) ≡ Truth (is_zero (value_of world env g))
+      go true c e d = truth_means (is_zero (g.constant)) ∙ ap (λ z. Truth (is_zero z)) (sym (number_value world env g e))
+      go false true e d = zero_means (turned (exact g)) ∙ ap Truth (turned_value world env (exact g) ∙ exact_value world env g k e d)
+      go false false e d = ap Truth (sym (never_zero world env g d))
 
   -- the form of a difference
-  difference_value : (t u : Tree) (g : Lin) → cut (minus (lower t) (lower u)) ≡ Some g → value_of env g ≡ value env t -ℤ value env u
+  difference_value : (t u : Tree) (g : Lin) → cut (minus (lower t) (lower u)) ≡ Some g → value_of world env g ≡ V t -ℤ V u
   difference_value t u g e =
-      let a = lower_value env t in
-      let b = lower_value env u in
-      cut_value env (minus (lower t) (lower u)) g e ∙ minus_value env (lower t) (lower u) ∙ (λ i. a i -ℤ b i)
+      let a = lower_value world env t in
+      let b = lower_value world env u in
+      cut_value world env (minus (lower t) (lower u)) g e ∙ minus_value world env (lower t) (lower u) ∙ (λ i. a i -ℤ b i)
 
   difference_good : (t u : Tree) (g : Lin) → Fixed step t → Fixed step u → cut (minus (lower t) (lower u)) ≡ Some g → Good (g.parts)
   difference_good t u g f k e = (cut_good (minus (lower t) (lower u)) g (minus_good (lower t) (lower u) (lower_good t f) (lower_good u k)) e).0.0
@@ -194,8 +244,8 @@ module _ (env : Values) where
   keeps_less : Keeps less_rule
   keeps_less (h.Form form.Less) (more t (more u stop)) w f k =
       let is : at_most (node (h.Term op.Add) (two t (num (pos 1)))) u ≡ w = cc in
-      let e : value env t +ℤ (pos 1 +ℤ pos 0) ≡ value env t +ℤ pos 1 = refl in
-      ap M (sym is) ∙ ap (λ z. Truth (int_le z (value env u))) e ∙ ap Truth (lt_more (value env t) (value env u))
+      let e : V t +ℤ (pos 1 +ℤ pos 0) ≡ V t +ℤ pos 1 = refl in
+      ap M (sym is) ∙ ap (λ z. Truth (int_le z (V u))) e ∙ ap Truth (lt_more (V t) (V u))
   keeps_less head ts w f k = absurd cc
 
   keeps_at_most : Keeps at_most_rule
@@ -205,7 +255,7 @@ module _ (env : Values) where
       go None e r = absurd cc
       go (Some g) e r =
           ap M (sym (differs_is (at_most_tree g) (at_most t u) w r)) ∙ at_most_means g (difference_good t u g f.0 f.1.0 e)
-          ∙ ap (λ z. Truth (int_le z (pos 0))) (difference_value t u g e) ∙ ap Truth (le_difference (value env t) (value env u))
+          ∙ ap (λ z. Truth (int_le z (pos 0))) (difference_value t u g e) ∙ ap Truth (le_difference (V t) (V u))
   keeps_at_most head ts w f k = absurd cc
 
   keeps_equal : Keeps equal_rule
@@ -223,57 +273,63 @@ module _ (env : Values) where
   keeps_imp : Keeps imp_rule
   keeps_imp h.Imp (more a (more b stop)) w f k =
       let is : node h.Or (two (not_of a) b) ≡ w = cc in
-      ap M (sym is) ∙ ap (λ z. Truth (not (truth env a) || z)) (or_false (truth env b))
+      ap M (sym is) ∙ ap (λ z. Truth (not (so a) || z)) (or_false (so b))
   keeps_imp head ts w f k = absurd cc
 
   keeps_iff : Keeps iff_rule
   keeps_iff h.Iff (more a (more b stop)) w f k =
       let is : node h.And (two (node h.Or (two (not_of a) b)) (node h.Or (two a (not_of b)))) ≡ w = cc in
-      ap M (sym is) ∙ ap Truth (both_ways (truth env a) (truth env b))
+      ap M (sym is) ∙ ap Truth (both_ways (so a) (so b))
   keeps_iff head ts w f k = absurd cc
 
   abbrev each_so : Trees → Bool
-  each_so ts = each_true (map is_so (meanings env ts))
+  each_so ts = each_true (map is_so (meanings world env ts))
 
   abbrev some_so : Trees → Bool
-  some_so ts = some_true (map is_so (meanings env ts))
+  some_so ts = some_true (map is_so (meanings world env ts))
 
   nots_some : (ts : Trees) → some_so (nots ts) ≡ not (each_so ts)
   nots_some stop = refl
-  nots_some (more t ts) = ap (λ b. not (truth env t) || b) (nots_some ts) ∙ sym (not_and (truth env t) (each_so ts))
+  nots_some (more t ts) = ap (λ b. not (so t) || b) (nots_some ts) ∙ sym (not_and (so t) (each_so ts))
 
   nots_each : (ts : Trees) → each_so (nots ts) ≡ not (some_so ts)
   nots_each stop = refl
-  nots_each (more t ts) = ap (λ b. not (truth env t) && b) (nots_each ts) ∙ sym (not_or (truth env t) (some_so ts))
+  nots_each (more t ts) = ap (λ b. not (so t) && b) (nots_each ts) ∙ sym (not_or (so t) (some_so ts))
 
-  flip_means : (a u w : Tree) → flipped (at_most a u) ≡ Some w → M w ≡ Truth (not (truth env (at_most a u)))
+  flip_means : (a u w : Tree) → flipped (at_most a u) ≡ Some w → M w ≡ Truth (not (so (at_most a u)))
   flip_means a u w k = go (same u (num (pos 0))) refl k
     where
-      at : u ≡ num (pos 0) → (o : Option Lin) → cut (minus (number (pos 1)) (lower a)) ≡ o → option_tree at_most_zero o ≡ Some w → M w ≡ Truth (not (truth env (at_most a u)))
+      at : u ≡ num (pos 0) → (o : Option Lin) → cut (minus (number (pos 1)) (lower a)) ≡ o → option_tree at_most_zero o ≡ Some w → M w ≡ Truth (not (so (at_most a u)))
       at z None e q = absurd cc
       at z (Some g) e q =
           let is : at_most_zero g ≡ w = cc in
-          let one_value = number_value env (number (pos 1)) refl in
-          let v = lower_value env a in
-          ap M (sym is) ∙ at_most_zero_means g ∙ ap (λ z. Truth (int_le z (pos 0))) (cut_value env (minus (number (pos 1)) (lower a)) g e ∙ minus_value env (number (pos 1)) (lower a) ∙ (λ i. one_value i -ℤ v i))
-          ∙ ap Truth (not_le (value env a)) ∙ ap (λ t. Truth (not (int_le (value env a) (value env t)))) (sym z)
+          let one_value = number_value world env (number (pos 1)) refl in
+          let v = lower_value world env a in
+          ap M (sym is) ∙ at_most_zero_means g ∙ ap (λ z. Truth (int_le z (pos 0))) (cut_value world env (minus (number (pos 1)) (lower a)) g e ∙ minus_value world env (number (pos 1)) (lower a) ∙ (λ i. one_value i -ℤ v i))
+          ∙ ap Truth (not_le (V a)) ∙ ap (λ t. Truth (not (int_le (V a) (V t)))) (sym z)
 
-      go : (b : Bool) → same u (num (pos 0)) ≡ b → cond b (option_tree at_most_zero (cut (minus (number (pos 1)) (lower a)))) None ≡ Some w → M w ≡ Truth (not (truth env (at_most a u)))
+      go : (b : Bool) → same u (num (pos 0)) ≡ b → cond b (option_tree at_most_zero (cut (minus (number (pos 1)) (lower a)))) None ≡ Some w → M w ≡ Truth (not (so (at_most a u)))
       go true e q = at (same_exact u (num (pos 0)) e) (cut (minus (number (pos 1)) (lower a))) refl q
       go false e q = absurd cc
 
-  flipped_means : (t w : Tree) → flipped t ≡ Some w → M w ≡ Truth (not (truth env t))
+  flipped_means : (t w : Tree) → flipped t ≡ Some w → M w ≡ Truth (not (so t))
   flipped_means (node (h.Form form.AtMost) (more a (more u stop))) w k = flip_means a u w k
   flipped_means t w k = absurd cc
 
-  inward_means : (t w : Tree) → inward (head_of t) (kids_in t) ≡ Some w → M w ≡ Truth (not (truth env t))
+  inward_means : (t w : Tree) → inward (head_of t) (kids_in t) ≡ Some w → M w ≡ Truth (not (so t))
   inward_means (node h.True ts) w k = let is : false_tree ≡ w = cc in ap M (sym is)
   inward_means (node h.False ts) w k = let is : true_tree ≡ w = cc in ap M (sym is)
   inward_means (node h.Not (more f stop)) w k =
       let p = so_is (is_formula (head_of f)) f w k in
-      ap M (sym p.1) ∙ formula_truth f p.0 ∙ ap Truth (sym (not_not (truth env f)))
+      ap M (sym p.1) ∙ formula_truth f p.0 ∙ ap Truth (sym (not_not (so f)))
   inward_means (node h.And ts) w k = let is : node h.Or (nots ts) ≡ w = cc in ap M (sym is) ∙ ap Truth (nots_some ts)
   inward_means (node h.Or ts) w k = let is : node h.And (nots ts) ≡ w = cc in ap M (sym is) ∙ ap Truth (nots_each ts)
+  inward_means (node (h.Forall x) (more t (more u (more f stop)))) w k =
+      let is : node (h.Exists x) (three t u (not_of f)) ≡ w = cc in
+      ap M (sym is) ∙ ap Truth (some_not (V t) (to_nat (V u -ℤ V t)) (λ z. truth world (with_int env x z) f))
+  inward_means (node (h.Exists x) (more t (more u (more f stop)))) w k =
+      let is : node (h.Forall x) (three t u (not_of f)) ≡ w = cc in
+      ap M (sym is) ∙ ap Truth (all_not (V t) (to_nat (V u -ℤ V t)) (λ z. truth world (with_int env x z) f))
   inward_means (node (h.Form o) ts) w k = flipped_means (node (h.Form o) ts) w k
   inward_means t w k = absurd cc
 
@@ -285,7 +341,7 @@ module _ (env : Values) where
 
   abbrev said : Bool → List Tree → Bool
   said b [] = b
-  said b (t ∷ ts) = both b (truth env t) (said b ts)
+  said b (t ∷ ts) = both b (so t) (said b ts)
 
   joint_means : (b : Bool) (ts : List Tree) → M (joint b ts) ≡ Truth (said b ts)
   unfolding both
@@ -293,16 +349,16 @@ module _ (env : Values) where
     where
       go : (us : List Tree) → each_so (trees_of us) ≡ said true us
       go [] = refl
-      go (t ∷ us) = ap (λ b. truth env t && b) (go us)
+      go (t ∷ us) = ap (λ b. so t && b) (go us)
   joint_means false ts = ap Truth (go ts)
     where
       go : (us : List Tree) → some_so (trees_of us) ≡ said false us
       go [] = refl
-      go (t ∷ us) = ap (λ b. truth env t || b) (go us)
+      go (t ∷ us) = ap (λ b. so t || b) (go us)
 
   said_append : (b : Bool) (ts us : List Tree) → said b (ts ++ us) ≡ both b (said b ts) (said b us)
   said_append b [] us = sym (both_unit b (said b us))
-  said_append b (t ∷ ts) us = ap (both b (truth env t)) (said_append b ts us) ∙ sym (both_assoc b (truth env t) (said b ts) (said b us))
+  said_append b (t ∷ ts) us = ap (both b (so t)) (said_append b ts us) ∙ sym (both_assoc b (so t) (said b ts) (said b us))
 
   -- a rule on the parts keeps what they say together
   abbrev KeepsJoint : (Bool → List Tree → Option Tree) → Type 0
@@ -314,25 +370,25 @@ module _ (env : Values) where
   at_joints_keep rule keep head ts w f k = absurd cc
 
   -- the parts of a part of the same kind say what it says
-  parts_say : (b : Bool) (t : Tree) → is_joint b t ≡ true → said b (list_of (kids_in t)) ≡ truth env t
-  parts_say true (node h.And ts) k = ap is_so (sym (joint_means true (list_of ts))) ∙ ap (λ us. truth env (node h.And us)) (trees_of-list_of ts)
-  parts_say false (node h.Or ts) k = ap is_so (sym (joint_means false (list_of ts))) ∙ ap (λ us. truth env (node h.Or us)) (trees_of-list_of ts)
+  parts_say : (b : Bool) (t : Tree) → is_joint b t ≡ true → said b (list_of (kids_in t)) ≡ so t
+  parts_say true (node h.And ts) k = ap is_so (sym (joint_means true (list_of ts))) ∙ ap (λ us. so (node h.And us)) (trees_of-list_of ts)
+  parts_say false (node h.Or ts) k = ap is_so (sym (joint_means false (list_of ts))) ∙ ap (λ us. so (node h.Or us)) (trees_of-list_of ts)
   parts_say b t k = absurd cc
 
   flat_said : (b : Bool) (ts : List Tree) → said b (flattened b ts) ≡ said b ts
   flat_said b [] = refl
   flat_said b (t ∷ ts) = go (flat_said b ts) (is_joint b t) refl
     where
-      go : said b (flattened b ts) ≡ said b ts → (c : Bool) → is_joint b t ≡ c → said b (cond c (list_of (kids_in t)) (t ∷ []) ++ flattened b ts) ≡ both b (truth env t) (said b ts)
+      go : said b (flattened b ts) ≡ said b ts → (c : Bool) → is_joint b t ≡ c → said b (cond c (list_of (kids_in t)) (t ∷ []) ++ flattened b ts) ≡ both b (so t) (said b ts)
       go r true e = let q = parts_say b t e in said_append b (list_of (kids_in t)) (flattened b ts) ∙ (λ i. both b (q i) (r i))
-      go r false e = ap (both b (truth env t)) r
+      go r false e = ap (both b (so t)) r
 
   keeps_flatten : KeepsJoint flatten
   keeps_flatten b ts w k =
       let p = so_is (has (is_joint b) ts) (joint b (flattened b ts)) w k in
       ap M (sym p.1) ∙ joint_means b (flattened b ts) ∙ ap Truth (flat_said b ts)
 
-  truth_said : (b : Bool) (t : Tree) → is_truth b t ≡ true → truth env t ≡ b
+  truth_said : (b : Bool) (t : Tree) → is_truth b t ≡ true → so t ≡ b
   truth_said true (node h.True ts) k = refl
   truth_said false (node h.False ts) k = refl
   truth_said b t k = absurd cc
@@ -341,7 +397,7 @@ module _ (env : Values) where
   absorbed b [] k = absurd cc
   absorbed b (t ∷ ts) k = elim (or_either (is_truth (not b) t) (has (is_truth (not b)) ts) k) [
     | inl e ↦ ap (λ c. both b c (said b ts)) (truth_said (not b) t e) ∙ both_absorber b (said b ts)
-    | inr e ↦ ap (both b (truth env t)) (absorbed b ts e) ∙ both_comm b (truth env t) (not b) ∙ both_absorber b (truth env t)
+    | inr e ↦ ap (both b (so t)) (absorbed b ts e) ∙ both_comm b (so t) (not b) ∙ both_absorber b (so t)
   ]
 
   keeps_absorb : KeepsJoint absorb
@@ -353,9 +409,9 @@ module _ (env : Values) where
   without_said b [] = refl
   without_said b (t ∷ ts) = go (without_said b ts) (is_truth b t) refl
     where
-      go : said b (without_units b ts) ≡ said b ts → (c : Bool) → is_truth b t ≡ c → said b (cond c (without_units b ts) (t ∷ without_units b ts)) ≡ both b (truth env t) (said b ts)
+      go : said b (without_units b ts) ≡ said b ts → (c : Bool) → is_truth b t ≡ c → said b (cond c (without_units b ts) (t ∷ without_units b ts)) ≡ both b (so t) (said b ts)
       go r true e = r ∙ sym (ap (λ c. both b c (said b ts)) (truth_said b t e) ∙ both_unit b (said b ts))
-      go r false e = ap (both b (truth env t)) r
+      go r false e = ap (both b (so t)) r
 
   keeps_units : KeepsJoint drop_units
   keeps_units b ts w k =
@@ -363,31 +419,31 @@ module _ (env : Values) where
       ap M (sym p.1) ∙ joint_means b (without_units b ts) ∙ ap Truth (without_said b ts)
 
   -- a part that is there already says nothing more
-  among_said : (b : Bool) (t : Tree) (ts : List Tree) → among t ts ≡ true → both b (truth env t) (said b ts) ≡ said b ts
+  among_said : (b : Bool) (t : Tree) (ts : List Tree) → among t ts ≡ true → both b (so t) (said b ts) ≡ said b ts
   among_said b t [] k = absurd cc
   among_said b t (u ∷ ts) k = elim (or_either (same t u) (among t ts) k) [
-    | inl e ↦ ap (λ z. both b (truth env z) (both b (truth env u) (said b ts))) (same_exact t u e) ∙ both_itself b (truth env u) (said b ts)
+    | inl e ↦ ap (λ z. both b (so z) (both b (so u) (said b ts))) (same_exact t u e) ∙ both_itself b (so u) (said b ts)
     | inr e ↦
-        sym (both_assoc b (truth env t) (truth env u) (said b ts)) ∙ ap (λ c. both b c (said b ts)) (both_comm b (truth env t) (truth env u))
-        ∙ both_assoc b (truth env u) (truth env t) (said b ts) ∙ ap (both b (truth env u)) (among_said b t ts e)
+        sym (both_assoc b (so t) (so u) (said b ts)) ∙ ap (λ c. both b c (said b ts)) (both_comm b (so t) (so u))
+        ∙ both_assoc b (so u) (so t) (said b ts) ∙ ap (both b (so u)) (among_said b t ts e)
   ]
 
-  one_said : (b : Bool) (t : Tree) → both b (truth env t) b ≡ truth env t
-  one_said b t = both_comm b (truth env t) b ∙ both_unit b (truth env t)
+  one_said : (b : Bool) (t : Tree) → both b (so t) b ≡ so t
+  one_said b t = both_comm b (so t) b ∙ both_unit b (so t)
 
   fresh_said : (b : Bool) (seen ts : List Tree) → both b (said b seen) (said b (fresh seen ts)) ≡ both b (said b seen) (said b ts)
   fresh_said b seen [] = refl
   fresh_said b seen (t ∷ ts) = go (fresh_said b seen ts) (fresh_said b (seen ++ t ∷ []) ts) (among t seen) refl
     where
       go : both b (said b seen) (said b (fresh seen ts)) ≡ both b (said b seen) (said b ts)
-          → both b (said b (seen ++ t ∷ [])) (said b (fresh (seen ++ t ∷ []) ts)) ≡ both b (said b (seen ++ t ∷ [])) (said b ts) → (c : Bool) → among t seen ≡ c → both b (said b seen) (said b (cond c (fresh seen ts) (t ∷ fresh (seen ++ t ∷ []) ts))) ≡ both b (said b seen) (both b (truth env t) (said b ts))
+          → both b (said b (seen ++ t ∷ [])) (said b (fresh (seen ++ t ∷ []) ts)) ≡ both b (said b (seen ++ t ∷ [])) (said b ts) → (c : Bool) → among t seen ≡ c → both b (said b seen) (said b (cond c (fresh seen ts) (t ∷ fresh (seen ++ t ∷ []) ts))) ≡ both b (said b seen) (both b (so t) (said b ts))
       go r q true e =
-          r ∙ ap (λ c. both b c (said b ts)) (sym (both_comm b (said b seen) (truth env t) ∙ among_said b t seen e))
-          ∙ both_assoc b (said b seen) (truth env t) (said b ts)
+          r ∙ ap (λ c. both b c (said b ts)) (sym (both_comm b (said b seen) (so t) ∙ among_said b t seen e))
+          ∙ both_assoc b (said b seen) (so t) (said b ts)
       go r q false e =
           let more_said = said_append b seen (t ∷ []) ∙ ap (both b (said b seen)) (one_said b t) in
-          sym (both_assoc b (said b seen) (truth env t) (said b (fresh (seen ++ t ∷ []) ts))) ∙ ap (λ c. both b c (said b (fresh (seen ++ t ∷ []) ts))) (sym more_said)
-          ∙ q ∙ ap (λ c. both b c (said b ts)) more_said ∙ both_assoc b (said b seen) (truth env t) (said b ts)
+          sym (both_assoc b (said b seen) (so t) (said b (fresh (seen ++ t ∷ []) ts))) ∙ ap (λ c. both b c (said b (fresh (seen ++ t ∷ []) ts))) (sym more_said)
+          ∙ q ∙ ap (λ c. both b c (said b ts)) more_said ∙ both_assoc b (said b seen) (so t) (said b ts)
 
   keeps_repeats : KeepsJoint drop_repeats
   keeps_repeats b ts w k =
@@ -395,18 +451,18 @@ module _ (env : Values) where
       ap M (sym p.1) ∙ joint_means b (fresh [] ts) ∙ ap Truth (sym (both_unit b (said b (fresh [] ts))) ∙ fresh_said b [] ts ∙ both_unit b (said b ts))
 
   -- a part and its `not`
-  opposite_said : (b : Bool) (t w : Tree) (ts : List Tree) → M w ≡ Truth (not (truth env t)) → among w ts ≡ true → both b (truth env t) (said b ts) ≡ not b
+  opposite_said : (b : Bool) (t w : Tree) (ts : List Tree) → M w ≡ Truth (not (so t)) → among w ts ≡ true → both b (so t) (said b ts) ≡ not b
   opposite_said b t w ts e k =
-      ap (both b (truth env t)) (sym (among_said b w ts k)) ∙ sym (both_assoc b (truth env t) (truth env w) (said b ts))
-      ∙ ap (λ c. both b (both b (truth env t) c) (said b ts)) (ap is_so e) ∙ ap (λ c. both b c (said b ts)) (both_opposed b (truth env t)) ∙ both_absorber b (said b ts)
+      ap (both b (so t)) (sym (among_said b w ts k)) ∙ sym (both_assoc b (so t) (so w) (said b ts))
+      ∙ ap (λ c. both b (both b (so t) c) (said b ts)) (ap is_so e) ∙ ap (λ c. both b c (said b ts)) (both_opposed b (so t)) ∙ both_absorber b (said b ts)
 
-  opposed_at : (b : Bool) (t : Tree) (ts : List Tree) → is_opposed ts t ≡ true → both b (truth env t) (said b ts) ≡ not b
+  opposed_at : (b : Bool) (t : Tree) (ts : List Tree) → is_opposed ts t ≡ true → both b (so t) (said b ts) ≡ not b
   opposed_at b t ts k = elim (or_either (among (not_of t) ts) (among_some (flipped t) ts) k) [
     | inl e ↦ opposite_said b t (not_of t) ts refl e
     | inr e ↦ go (flipped t) refl e
   ]
     where
-      go : (o : Option Tree) → flipped t ≡ o → among_some o ts ≡ true → both b (truth env t) (said b ts) ≡ not b
+      go : (o : Option Tree) → flipped t ≡ o → among_some o ts ≡ true → both b (so t) (said b ts) ≡ not b
       go None e q = absurd cc
       go (Some w) e q = opposite_said b t w ts (flipped_means t w e) q
 
@@ -414,9 +470,9 @@ module _ (env : Values) where
   opposed b all [] k = absurd cc
   opposed b all (t ∷ ts) k = elim (or_either (is_opposed all t) (has (is_opposed all) ts) k) [
     | inl e ↦
-        ap (λ c. both b c (said b all)) (both_comm b (truth env t) (said b ts)) ∙ both_assoc b (said b ts) (truth env t) (said b all)
+        ap (λ c. both b c (said b all)) (both_comm b (so t) (said b ts)) ∙ both_assoc b (said b ts) (so t) (said b all)
         ∙ ap (both b (said b ts)) (opposed_at b t all e) ∙ both_comm b (said b ts) (not b) ∙ both_absorber b (said b ts)
-    | inr e ↦ both_assoc b (truth env t) (said b ts) (said b all) ∙ ap (both b (truth env t)) (opposed b all ts e) ∙ both_comm b (truth env t) (not b) ∙ both_absorber b (truth env t)
+    | inr e ↦ both_assoc b (so t) (said b ts) (said b all) ∙ ap (both b (so t)) (opposed b all ts e) ∙ both_comm b (so t) (not b) ∙ both_absorber b (so t)
   ]
 
   both_same : (b x : Bool) → both b x x ≡ x
@@ -456,18 +512,21 @@ module _ (env : Values) where
       first_keeps table (
         keeps_sums,
         (
-          keeps_less,
+          keeps_arm,
           (
-            keeps_at_most,
+            keeps_less,
             (
-              keeps_equal,
+              keeps_at_most,
               (
-                keeps_imp,
+                keeps_equal,
                 (
-                  keeps_iff,
+                  keeps_imp,
                   (
-                    keeps_not,
-                    (at_joints_keep flatten keeps_flatten, (at_joints_keep absorb keeps_absorb, (at_joints_keep drop_units keeps_units, (at_joints_keep drop_repeats keeps_repeats, (at_joints_keep oppose keeps_oppose, (at_joints_keep alone keeps_alone, tt)))))),
+                    keeps_iff,
+                    (
+                      keeps_not,
+                      (at_joints_keep flatten keeps_flatten, (at_joints_keep absorb keeps_absorb, (at_joints_keep drop_units keeps_units, (at_joints_keep drop_repeats keeps_repeats, (at_joints_keep oppose keeps_oppose, (at_joints_keep alone keeps_alone, tt)))))),
+                    ),
                   ),
                 ),
               ),

@@ -8,13 +8,14 @@ use Rattle.qed_terms.specs.declared.head.Head.TheVariants as h
 use Rattle.qed_terms.specs.declared.head.TermOp.{TermOp}
 use Rattle.qed_terms.specs.declared.head.TermOp.TheVariants as op
 use Rattle.qed_terms.specs.Tree.{Tree, node, Trees, stop, more, trees_of, head_of, two, num}
-use Rattle.qed_terms.specs.Meaning.{is_zero, is_equal}
-use Rattle.qed_simplify.specs.Order.{tree_cmp, same}
-use Rattle.qed_simplify.specs.Linear.{fits, Part, Lin, part, lin, number, atom_lin, is_number, part_tree, constant_trees, sum_tree, of_lin, at_order, keep, into, merged, plus, total_lin, times_parts, scaled, minus, is_term, parts_hold, cut, term_form, own_form, or_atom, lower, lowers}
+use Rattle.qed_terms.specs.Operators.{is_zero, is_equal}
+use Rattle.qed_terms.specs.Order.{tree_cmp, same}
+use Rattle.qed_simplify.specs.Linear.{fits, Part, Lin, part, lin, number, atom_lin, is_number, part_tree, constant_trees, sum_tree, of_lin, at_order, keep, into, merged, plus, total_lin, times_parts, scaled, minus, is_integer, parts_hold, cut, term_form, own_form, or_atom, lower, lowers}
 use Rattle.qed_simplify.specs.Rules.{differs, changed, sums, first_some, step}
 use Rattle.qed_simplify.specs.Normal.{Normal, Normals, stays, changes, nothing, each}
 use Rattle.qed_simplify.proofs.Facts.{and_left, and_right, zero_is, equal_is, no_zero}
-use Rattle.qed_simplify.proofs.Total.{tree_turned, tree_chain, same_itself, same_exact}
+use Rattle.qed_terms.proofs.Total.{same_itself, same_exact}
+use Rattle.qed_simplify.proofs.Ordered.{tree_turned, tree_chain}
 use Rattle.qed_simplify.proofs.Derived.{Fixed, AllFixed, fixed-normal}
 
 pub fits_zero : fits (pos 0) ≡ true
@@ -156,7 +157,7 @@ times_form p i z f =
 pub sum_stays : (head : Head) (ts : Trees) (f : Lin) → own_form head (lowers ts) ≡ Some f → of_lin f ≡ node head ts → sums head ts ≡ None
 sum_stays head ts f e k = ap (λ o. changed of_lin o (node head ts)) e ∙ differs_none (of_lin f) (node head ts) k
 
-part_settled : (p : Part) → IsAtom (p.atom) → is_zero (p.times) ≡ false → fits (p.times) && is_term (head_of (p.atom)) ≡ true → (lower (part_tree p) ≡ single p) × Normal step (part_tree p) (part_tree p)
+part_settled : (p : Part) → IsAtom (p.atom) → is_zero (p.times) ≡ false → fits (p.times) && is_integer (head_of (p.atom)) ≡ true → (lower (part_tree p) ≡ single p) × Normal step (part_tree p) (part_tree p)
 part_settled p i z f = go (is_equal (p.times) (pos 1)) refl
   where
     go : (b : Bool) → is_equal (p.times) (pos 1) ≡ b
@@ -164,7 +165,7 @@ part_settled p i z f = go (is_equal (p.times) (pos 1)) refl
     go true k = (i.0 ∙ ap (λ c. lin (part (p.atom) c ∷ []) (pos 0)) (sym (equal_is (p.times) (pos 1) k)), i.1)
     go false k =
         let ts = two (num (p.times)) (p.atom) in
-        let fc = and_left (fits (p.times)) (is_term (head_of (p.atom))) f in
+        let fc = and_left (fits (p.times)) (is_integer (head_of (p.atom))) f in
         let form : own_form (h.Term op.Mul) (lowers ts) ≡ Some (single p) =
         ap (λ g. term_form op.Mul (g ∷ lower (p.atom) ∷ [])) (num_form (p.times) fc) ∙ times_form p i.0 z (ap (λ b. b && true) f) in
         let is : of_lin (single p) ≡ node (h.Term op.Mul) ts = ap (λ b. cond b (p.atom) (node (h.Term op.Mul) ts)) k in
@@ -190,14 +191,14 @@ kids ps c = map part_tree ps ++ constant_trees c
 kids_normals : (ps : List Part) (c : ℤ) → Good ps → parts_hold ps ≡ true → Normals step (trees_of (kids ps c)) (trees_of (kids ps c))
 kids_normals [] c g f = constant_normals c
 kids_normals (p ∷ ps) c g f =
-    each (part_settled p g.0 g.1 (and_left (fits (p.times) && is_term (head_of (p.atom))) (parts_hold ps) f)).1
-    (kids_normals ps c g.3 (and_right (fits (p.times) && is_term (head_of (p.atom))) (parts_hold ps) f))
+    each (part_settled p g.0 g.1 (and_left (fits (p.times) && is_integer (head_of (p.atom))) (parts_hold ps) f)).1
+    (kids_normals ps c g.3 (and_right (fits (p.times) && is_integer (head_of (p.atom))) (parts_hold ps) f))
 
 kids_lowers : (ps : List Part) (c : ℤ) → Good ps → parts_hold ps ≡ true → fits c ≡ true → lowers (trees_of (kids ps c)) ≡ map single ps ++ last_forms c
 kids_lowers [] c g f fc = constant_lowers c fc
 kids_lowers (p ∷ ps) c g f fc =
-    let first = (part_settled p g.0 g.1 (and_left (fits (p.times) && is_term (head_of (p.atom))) (parts_hold ps) f)).0 in
-    let rest = kids_lowers ps c g.3 (and_right (fits (p.times) && is_term (head_of (p.atom))) (parts_hold ps) f) fc in
+    let first = (part_settled p g.0 g.1 (and_left (fits (p.times) && is_integer (head_of (p.atom))) (parts_hold ps) f)).0 in
+    let rest = kids_lowers ps c g.3 (and_right (fits (p.times) && is_integer (head_of (p.atom))) (parts_hold ps) f) fc in
     λ i. first i ∷ rest i
 
 abbrev pub Settled : Lin → Type 0
@@ -228,7 +229,7 @@ at_parts (p ∷ []) c g = go (is_zero c) refl
   where
     go : (z : Bool) → is_zero c ≡ z → (lower (sum_tree (part_tree p ∷ cond z [] (num c ∷ []))) ≡ lin (p ∷ []) c) × Normal step (sum_tree (part_tree p ∷ cond z [] (num c ∷ []))) (sum_tree (part_tree p ∷ cond z [] (num c ∷ [])))
     go true k =
-        let r = part_settled p g.0.0 g.0.1 (and_left (fits (p.times) && is_term (head_of (p.atom))) true g.1) in
+        let r = part_settled p g.0.0 g.0.1 (and_left (fits (p.times) && is_integer (head_of (p.atom))) true g.1) in
         (r.0 ∙ ap (lin (p ∷ [])) (sym (zero_is c k)), r.1)
     go false k = sum_settled (lin (p ∷ []) c) g (part_tree p) (num c) [] (ap (λ z. part_tree p ∷ cond z [] (num c ∷ [])) k)
 at_parts (p ∷ q ∷ ps) c g = sum_settled (lin (p ∷ q ∷ ps) c) g (part_tree p) (part_tree q) (kids ps c) refl

@@ -7,15 +7,15 @@ use Rattle.qed_terms.specs.declared.head.FormOp.TheVariants as form
 use Rattle.qed_terms.specs.declared.term.Term.{Term}
 use Rattle.qed_terms.specs.declared.term.Formula.{Formula}
 use Rattle.qed_terms.specs.declared.term.Formula.TheVariants as f
-use Rattle.qed_terms.specs.Tree.{Tree, node, more, stop, trees_of, list_of, kids_in}
+use Rattle.qed_terms.specs.Tree.{Tree, node, more, stop, two, trees_of, list_of, kids_in}
 use Rattle.qed_terms.specs.View.{term_tree, formula_tree}
-use Rattle.qed_terms.specs.Meaning.{is_zero}
+use Rattle.qed_terms.specs.Operators.{is_zero}
 use Rattle.qed_terms.proofs.Lists.{list_of-trees_of}
 use Rattle.qed_terms.proofs.Equations.{formula_tree-Rel, formula_tree-Not, formula_tree-And, formula_tree-Or}
 use Rattle.qed_simplify.specs.Linear.{Lin, is_number, divisor, divides, exact, turned}
 use Rattle.qed_simplify.specs.Rules.{truth_tree, is_zero_form, equal_tree, flipped_at, joint, is_joint, has, fresh}
 use Rattle.qed_simplify.specs.Direct.{stands, joined, negated, negateds, at_head, brought, broughts}
-use Rattle.qed_simplify.proofs.Injective.{formula_is}
+use Rattle.qed_simplify.proofs.Heads.{formula_is}
 use Rattle.qed_simplify.proofs.Places.{one_off, take_one, map_append}
 use Rattle.qed_simplify.proofs.Lowering.{broughts_of as broughts_of_terms}
 
@@ -117,3 +117,11 @@ not_two form.AtMost (t ∷ u ∷ v ∷ ts) k = (refl, refl)
 not_two form.Less [] k = (refl, refl)
 not_two form.Less (t ∷ []) k = (refl, refl)
 not_two form.Less (t ∷ u ∷ v ∷ ts) k = (refl, refl)
+not_two o ts k = (refl, refl)
+
+-- the kids of a relation over two terms
+pub pair_is : (ts : List Term) (x y : Term) → length ts ≡ 2 → x ≡ get_or ts 0 x → y ≡ get_or ts 1 y → trees_of (map term_tree ts) ≡ two (term_tree x) (term_tree y)
+pair_is [] x y k p q = absurd (omega arith)
+pair_is (t ∷ []) x y k p q = absurd (omega arith)
+pair_is (t ∷ u ∷ []) x y k p q = λ i. two (term_tree (sym p i)) (term_tree (sym q i))
+pair_is (t ∷ u ∷ v ∷ ts) x y k p q = absurd (omega arith)

@@ -5,14 +5,14 @@ use Rattle.std.specs.Prelude.{Option, Some, None}
 use Rattle.qed_terms.specs.declared.head.Head.TheVariants as h
 use Rattle.qed_terms.specs.declared.head.FormOp.TheVariants as form
 use Rattle.qed_terms.specs.Tree.{Tree, node, stop, more, head_of, two, num, at_most, equal, false_tree}
-use Rattle.qed_terms.specs.Meaning.{is_zero}
-use Rattle.qed_simplify.specs.Order.{same}
-use Rattle.qed_simplify.specs.Linear.{fits, Part, Lin, lin, number, atom_lin, is_number, of_lin, times_parts, scaled, minus, is_term, parts_hold, cut, lower, divisor, divides, tight, exact, turned, begins_negative, or_else}
+use Rattle.qed_terms.specs.Operators.{is_zero}
+use Rattle.qed_terms.specs.Order.{same}
+use Rattle.qed_simplify.specs.Linear.{fits, Part, Lin, lin, number, atom_lin, is_number, of_lin, times_parts, scaled, minus, is_integer, parts_hold, cut, lower, divisor, divides, tight, exact, turned, begins_negative, or_else}
 use Rattle.qed_simplify.specs.Rules.{changed, truth_tree, at_most_zero, is_zero_form, at_most_tree, equal_tree, option_tree, flipped, first_some, step}
 use Rattle.qed_simplify.specs.Normal.{Normal, Normals, stays, nothing, each}
 use Rattle.qed_simplify.specs.Direct.{by_form, at_most_of, equal_of}
 use Rattle.qed_simplify.proofs.Facts.{and_left, and_right, first_none}
-use Rattle.qed_simplify.proofs.Total.{same_exact}
+use Rattle.qed_terms.proofs.Total.{same_exact}
 use Rattle.qed_simplify.proofs.Derived.{Fixed, fixed-normal}
 use Rattle.qed_simplify.proofs.Linears.{fits_zero, fits_one, GoodLin, merged_none, differs_none, none_differs, num_normal, num_form, cut_is, lin_settled, cut_good, minus_good, scaled_good, lower_good, good_or_atom, reach}
 use Rattle.qed_simplify.proofs.Divisors.{tight_good, exact_good, tight_one, exact_one, divides_one, one_from_same, divisor_turned}
@@ -144,10 +144,10 @@ zero_is_sound a f g =
         let t : of_lin (tight (lower a)) ≡ a = cc in
         (e, one_from_same (lower a) g.0 e (sym (lin_settled (tight (lower a)) (tight_good (lower a) g e).0).0 ∙ ap lower t))
 
-holds_back : (c : ℤ) (t : Tree) → lower t ≡ atom_lin t → parts_hold (times_parts c ((lower t).parts)) ≡ true → GoodLin (lower t) ⊎ (is_term (head_of t) ≡ true)
+holds_back : (c : ℤ) (t : Tree) → lower t ≡ atom_lin t → parts_hold (times_parts c ((lower t).parts)) ≡ true → GoodLin (lower t) ⊎ (is_integer (head_of t) ≡ true)
 holds_back c t e k =
     let m = ap (λ g. parts_hold (times_parts c (g.parts))) (sym e) ∙ k in
-    inr (and_right (fits (c *ℤ pos 1)) (is_term (head_of t)) (and_left (fits (c *ℤ pos 1) && is_term (head_of t)) true m))
+    inr (and_right (fits (c *ℤ pos 1)) (is_integer (head_of t)) (and_left (fits (c *ℤ pos 1) && is_integer (head_of t)) true m))
 
 good_from_turned : (a : Tree) → Fixed step a → parts_hold (times_parts (negsuc 0) ((lower a).parts)) ≡ true → GoodLin (lower a)
 good_from_turned a f k = elim (good_or_atom a f) [

@@ -6,7 +6,7 @@ use Rattle.std.proofs.Math.IntN.{*ℤ-zero}
 use Rattle.std.proofs.Math.Nat.{div-mul_cancel, div-add-mod', div-lt_iff_lt-mul, le-div_iff_mul-le, suc-mul, add-mul, div-zero, mul_comm}
 use Rattle.std.specs.Int.{◌∣◌}
 use Rattle.std.specs.Int.Signed.{le_z_yes, lt_z_yes}
-use Rattle.qed_terms.specs.Meaning.{is_zero}
+use Rattle.qed_terms.specs.Operators.{is_zero}
 use Rattle.qed_simplify.specs.Linear.{rounded_up, divides}
 use Rattle.qed_simplify.proofs.Facts.{zero_is, no_zero}
 

@@ -11,19 +11,20 @@ use Rattle.qed_terms.specs.declared.head.Head.TheVariants as h
 use Rattle.qed_terms.specs.declared.head.TermOp.{TermOp}
 use Rattle.qed_terms.specs.declared.head.TermOp.TheVariants as op
 use Rattle.qed_terms.specs.Tree.{Tree, node, Trees, stop, more, trees_of, two, num}
-use Rattle.qed_terms.specs.Meaning.{Values, whole, is_zero, is_equal, total, value, meanings, term_value}
-use Rattle.qed_simplify.specs.Order.{tree_cmp}
+use Rattle.qed_terms.specs.Operators.{is_zero, is_equal, total}
+use Rattle.qed_terms.specs.Meaning.{World, Values, whole, value, meanings, term_value}
+use Rattle.qed_terms.specs.Order.{tree_cmp}
 use Rattle.qed_simplify.specs.Linear.{fits, Part, Lin, part, lin, number, is_number, part_tree, constant_trees, sum_tree, of_lin, at_order, keep, into, merged, total_lin, times_parts, scaled, minus, parts_hold, cut, term_form, own_form, or_atom, lower, lowers, divisor, divided, rounded_up, divides, tight, exact, turned, begins_negative, or_else}
 use Rattle.qed_simplify.proofs.Facts.{zero_is, equal_is}
-use Rattle.qed_simplify.proofs.Total.{tree_exact}
+use Rattle.qed_terms.proofs.Total.{tree_exact}
 use Rattle.qed_simplify.proofs.Ring.{sum_times, times_sum, product_times, times_one, one_times}
 use Rattle.qed_simplify.proofs.Rounding.{exact_back, up_is, scale_down, scale_below, scale_zero, abs_below, same_le, zero_turned}
 use Rattle.qed_simplify.proofs.Linears.{Good}
 use Rattle.qed_simplify.proofs.Divisors.{AllDivided, divisor_divides, divisor_positive}
 
-module _ (env : Values) where
+module _ (world : World) (env : Values) where
   abbrev V : Tree → ℤ
-  V = value env
+  V = value world env
 
   abbrev pub parts_value : List Part → ℤ
   parts_value [] = pos 0
@@ -101,9 +102,9 @@ module _ (env : Values) where
   -- ---- the form of a term
 
   abbrev kids_value : Trees → List ℤ
-  kids_value ts = map whole (meanings env ts)
+  kids_value ts = map whole (meanings world env ts)
 
-  term_form_value : (o : TermOp) (ts : Trees) (g : Lin) → map value_of (lowers ts) ≡ kids_value ts → term_form o (lowers ts) ≡ Some g → value_of g ≡ term_value o (kids_value ts)
+  term_form_value : (o : TermOp) (ts : Trees) (g : Lin) → map value_of (lowers ts) ≡ kids_value ts → term_form o (lowers ts) ≡ Some g → value_of g ≡ whole (term_value world o (meanings world env ts))
   term_form_value op.Add ts g same k = cut_value (total_lin (lowers ts)) g k ∙ total_value (lowers ts) ∙ ap total same
   term_form_value op.Sub (more t (more u stop)) g same k =
       let a : value_of (lower t) ≡ V t = cc in

@@ -1,17 +1,19 @@
 -- The walk over a tree gives its normal form.
-use Rattle.std.proofs.Common.{◌≡◌, Bool, true, false, cond, pos, List, [], ◌∷◌, refl, ap, subst}
+use Rattle.std.proofs.Common.{◌≡◌, Bool, true, false, ◌&&◌, cond, pos, List, [], ◌∷◌, refl, ap, subst}
 use Rattle.std.specs.Prelude.{Option, Some, None}
 use Rattle.qed_terms.specs.declared.head.Head.{Head}
 use Rattle.qed_terms.specs.declared.head.Head.TheVariants as h
 use Rattle.qed_terms.specs.declared.head.TermOp.TheVariants as op
 use Rattle.qed_terms.specs.declared.head.FormOp.{FormOp}
 use Rattle.qed_terms.specs.declared.head.FormOp.TheVariants as form
-use Rattle.qed_terms.specs.Tree.{Tree, node, Trees, stop, more, trees_of, list_of, head_of, one, two, num, not_of}
+use Rattle.qed_terms.specs.Tree.{Tree, node, Trees, stop, more, trees_of, list_of, head_of, one, two, three, num, ite, not_of}
 use Rattle.qed_terms.proofs.Lists.{trees_of-list_of}
-use Rattle.qed_simplify.specs.Linear.{or_else}
-use Rattle.qed_simplify.specs.Rules.{is_formula, where_so, nots, flipped, flipped_at, joint, first_some, step}
+use Rattle.qed_terms.specs.Order.{same}
+use Rattle.qed_simplify.specs.Linear.{is_integer, or_else}
+use Rattle.qed_simplify.specs.Rules.{is_formula, arm, where_so, nots, flipped, flipped_at, joint, first_some, step}
 use Rattle.qed_simplify.specs.Normal.{Normal, Normals, stays, changes, nothing, each}
 use Rattle.qed_simplify.specs.Direct.{joined, negated, negateds, summed, at_head, brought, broughts}
+use Rattle.qed_simplify.proofs.Facts.{so_is}
 use Rattle.qed_simplify.proofs.Derived.{Fixed, AllFixed, fixed-normal, fixed-normals, normal-fixed, normals-fixed, over_kids}
 use Rattle.qed_simplify.proofs.Linears.{num_normal, term_normal, number_normal}
 use Rattle.qed_simplify.proofs.Related.{truth_normal, at_most_made, equal_made, flipped_normal}
@@ -35,6 +37,10 @@ not_form o ts f = go (flipped_at (h.Form o) ts) refl
     go None e = not_stays (h.Form o) ts f (ap (λ p. first_some p None) e)
     go (Some w) e = changes (each (fixed-normal step (node (h.Form o) ts) f) nothing) (ap (λ p. first_some p None) e) (flipped_normal (node (h.Form o) ts) w f e)
 
+-- a node over three kids that no rule changes
+over_three : (head : Head) (t u a : Tree) → Fixed step t → Fixed step u → Fixed step a → step (node head (three t u a)) ≡ None → Normal step (node head (three t u a)) (node head (three t u a))
+over_three head t u a f k l e = stays (fixed-normals step (three t u a) (f, (k, (l, tt)))) e
+
 mutual
   pub negated_normal : (t : Tree) → Fixed step t → Normal step (not_of t) (negated t)
   negated_normal (node h.True ts) f = changes (each (fixed-normal step (node h.True ts) f) nothing) refl (truth_normal false)
@@ -50,6 +56,12 @@ mutual
   negated_normal (node h.Or ts) f =
       let ks = negateds_normal ts f.0 in
       changes (each (fixed-normal step (node h.Or ts) f) nothing) refl (over_kids step ks (joined_at true (negateds ts) (normals-fixed step ks)))
+  negated_normal (node (h.Forall x) (more t (more u (more a stop)))) f =
+      let n = negated_normal a f.0.1.1.0 in
+      changes (each (fixed-normal step (node (h.Forall x) (three t u a)) f) nothing) refl (over_kids step (each (fixed-normal step t f.0.0) (each (fixed-normal step u f.0.1.0) (each n nothing))) (over_three (h.Exists x) t u (negated a) f.0.0 f.0.1.0 (normal-fixed step n) refl))
+  negated_normal (node (h.Exists x) (more t (more u (more a stop)))) f =
+      let n = negated_normal a f.0.1.1.0 in
+      changes (each (fixed-normal step (node (h.Exists x) (three t u a)) f) nothing) refl (over_kids step (each (fixed-normal step t f.0.0) (each (fixed-normal step u f.0.1.0) (each n nothing))) (over_three (h.Forall x) t u (negated a) f.0.0 f.0.1.0 (normal-fixed step n) refl))
   negated_normal (node (h.Form o) ts) f = not_form o ts f
   negated_normal (node head ts) f = not_stays head ts f refl
 
@@ -68,9 +80,22 @@ or_normal a b f k =
     let n = negated_normal b k in
     over_kids step (each (fixed-normal step a f) (each n nothing)) (joined_at false (a ∷ negated b ∷ []) (f, (normal-fixed step n, tt)))
 
+arm_fixed : (g : Head) (t u w : Tree) → arm g t u ≡ Some w → Fixed step t → Fixed step u → Fixed step w
+arm_fixed h.True t u w k f l = subst (Fixed step) (so_is (is_integer (head_of t)) t w k).1 f
+arm_fixed h.False t u w k f l = subst (Fixed step) (so_is (is_integer (head_of u)) u w k).1 l
+arm_fixed g t u w k f l = subst (Fixed step) (so_is (same t u && is_integer (head_of t)) t w k).1 f
+
+ite_normal : (c t u : Tree) → AllFixed step (three c t u) → Normal step (ite c t u) (or_else (arm (head_of c) t u) (ite c t u))
+ite_normal c t u f = go (arm (head_of c) t u) refl
+  where
+    go : (o : Option Tree) → arm (head_of c) t u ≡ o → Normal step (ite c t u) (or_else o (ite c t u))
+    go None e = stays (fixed-normals step (three c t u) f) (ap (λ o. first_some o None) e)
+    go (Some w) e = changes (fixed-normals step (three c t u) f) (ap (λ o. first_some o None) e) (fixed-normal step w (arm_fixed (head_of c) t u w e f.1.0 f.1.1.0))
+
 pub at_head_normal : (head : Head) (us : Trees) → AllFixed step us → Normal step (node head us) (at_head head us)
 at_head_normal (h.Num z) us f = number_normal z us f (fixed-normals step us f)
 at_head_normal (h.Term o) us f = term_normal o us f (fixed-normals step us f)
+at_head_normal h.Ite (more c (more t (more u stop))) f = ite_normal c t u f
 at_head_normal (h.Form form.Less) (more t (more u stop)) f =
     let one_more = two t (num (pos 1)) in
     let known : AllFixed step one_more = (f.0, (normal-fixed step (num_normal (pos 1)), tt)) in

@@ -4,9 +4,9 @@ use Rattle.qed_terms.specs.declared.head.Head.{Head}
 use Rattle.qed_terms.specs.declared.head.Head.TheVariants as h
 use Rattle.qed_terms.specs.declared.head.TermOp.TheVariants as op
 use Rattle.qed_terms.specs.declared.head.FormOp.TheVariants as form
-use Rattle.qed_terms.specs.Tree.{Tree, node, Trees, stop, more, list_of, head_of, two, one, num, at_most, equal, not_of}
+use Rattle.qed_terms.specs.Tree.{Tree, node, Trees, stop, more, list_of, head_of, two, one, three, num, at_most, equal, ite, not_of}
 use Rattle.qed_simplify.specs.Linear.{Lin, of_lin, lower, cut, minus, or_else}
-use Rattle.qed_simplify.specs.Rules.{is_formula, truth_tree, at_most_tree, equal_tree, flipped, joint, is_truth, has, is_opposed, flattened, without_units, fresh}
+use Rattle.qed_simplify.specs.Rules.{is_formula, arm, truth_tree, at_most_tree, equal_tree, flipped, joint, is_truth, has, is_opposed, flattened, without_units, fresh}
 
 abbrev pub stands : Bool → List Tree → Tree
 stands b [] = truth_tree b
@@ -30,6 +30,8 @@ abbrev mutual
   negated (node h.Not (more f stop)) = if is_formula (head_of f) then f else not_of (node h.Not (one f))
   negated (node h.And ts) = joined false (negateds ts)
   negated (node h.Or ts) = joined true (negateds ts)
+  negated (node (h.Forall x) (more t (more u (more f stop)))) = node (h.Exists x) (three t u (negated f))
+  negated (node (h.Exists x) (more t (more u (more f stop)))) = node (h.Forall x) (three t u (negated f))
   negated (node head ts) = or_else (flipped (node head ts)) (not_of (node head ts))
 
   pub negateds : Trees → List Tree
@@ -54,6 +56,7 @@ summed t = of_lin (lower t)
 abbrev pub at_head : Head → Trees → Tree
 at_head (h.Num z) ts = summed (node (h.Num z) ts)
 at_head (h.Term o) ts = summed (node (h.Term o) ts)
+at_head h.Ite (more f (more t (more u stop))) = or_else (arm (head_of f) t u) (ite f t u)
 at_head (h.Form form.Less) (more t (more u stop)) = at_most_of (summed (node (h.Term op.Add) (two t (num (pos 1))))) u
 at_head (h.Form form.AtMost) (more t (more u stop)) = at_most_of t u
 at_head (h.Form form.Equal) (more t (more u stop)) = equal_of t u

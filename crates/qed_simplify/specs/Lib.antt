@@ -1,4 +1,3 @@
-pub mod Order
 pub mod Linear
 pub mod Rules
 pub mod Normal

@@ -6,9 +6,11 @@ use Rattle.qed_terms.specs.declared.head.Head.{Head}
 use Rattle.qed_terms.specs.declared.head.Head.TheVariants as h
 use Rattle.qed_terms.specs.declared.head.TermOp.{TermOp}
 use Rattle.qed_terms.specs.declared.head.TermOp.TheVariants as op
+use Rattle.qed_terms.specs.declared.head.Sort.TheVariants as sort
 use Rattle.qed_terms.specs.Tree.{Tree, node, Trees, stop, more, trees_of, head_of, two, num}
-use Rattle.qed_terms.specs.Meaning.{is_zero, is_equal}
-use Rattle.qed_simplify.specs.Order.{tree_cmp}
+use Rattle.qed_terms.specs.Operators.{is_zero, is_equal}
+use Rattle.qed_terms.specs.WellFormed.{same_sort, made_by}
+use Rattle.qed_terms.specs.Order.{tree_cmp}
 
 -- whether a number fits 128 bits
 unfoldable pub fits : ℤ → Bool
@@ -98,17 +100,20 @@ minus f g = plus f (scaled (negsuc 0) g)
 
 -- ---- the form of a term
 
-abbrev pub is_term : Head → Bool
-is_term (h.Num z) = true
-is_term (h.Var x) = true
-is_term (h.Term o) = true
-is_term head = false
+-- the heads of the terms that mean an integer, whatever their kids are
+abbrev pub is_integer : Head → Bool
+is_integer (h.Num z) = true
+is_integer (h.Var x s) = same_sort sort.Int s
+is_integer (h.Term o) = same_sort sort.Int (made_by o)
+is_integer h.Ite = true
+is_integer (h.App f) = true
+is_integer head = false
 
 abbrev pub parts_hold : List Part → Bool
 parts_hold [] = true
-parts_hold (p ∷ ps) = (fits (p.times) && is_term (head_of (p.atom))) && parts_hold ps
+parts_hold (p ∷ ps) = (fits (p.times) && is_integer (head_of (p.atom))) && parts_hold ps
 
--- the form where it is of terms and all its numbers fit
+-- the form where it is of integers and all its numbers fit
 abbrev pub cut : Lin → Option Lin
 cut f = if parts_hold (f.parts) && fits (f.constant) then Some f else None
 

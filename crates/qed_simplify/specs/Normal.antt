@@ -2,7 +2,7 @@
 use Rattle.std.specs.Prelude.{◌≡◌, Option, Some, None}
 use Rattle.qed_terms.specs.declared.head.Head.{Head}
 use Rattle.qed_terms.specs.Tree.{Tree, node, Trees, stop, more}
-use Rattle.qed_terms.specs.Meaning.{Values, meaning}
+use Rattle.qed_terms.specs.Meaning.{World, Values, meaning}
 use Rattle.qed_simplify.specs.Rules.{step}
 
 mutual
@@ -23,6 +23,6 @@ NormalIsOne = (t u v : Tree) → Normal step t u → Normal step t v → u ≡ v
 abbrev pub NormalIsSettled : Type 0
 NormalIsSettled = (t u : Tree) → Normal step t u → Normal step u u
 
--- a normal form means what the tree means
+-- a normal form means what the tree means, in each world and under all values
 abbrev pub NormalKeepsMeaning : Type 0
-NormalKeepsMeaning = (t u : Tree) → Normal step t u → (env : Values) → meaning env u ≡ meaning env t
+NormalKeepsMeaning = (t u : Tree) → Normal step t u → (w : World) (env : Values) → meaning w env u ≡ meaning w env t

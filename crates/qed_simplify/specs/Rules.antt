@@ -1,20 +1,25 @@
 -- The rules of the normal form, in order. Each answers at a node whose kids are in normal form, where it changes the node.
-use Rattle.std.specs.Prelude.{Bool, true, false, not, ◌||◌, if◌then◌else◌, pos, int_le, List, [], ◌∷◌, ◌++◌, Option, Some, None}
+use Rattle.std.specs.Prelude.{Bool, true, false, not, ◌&&◌, ◌||◌, if◌then◌else◌, pos, int_le, List, [], ◌∷◌, ◌++◌, Option, Some, None}
 use Rattle.qed_terms.specs.declared.head.Head.{Head}
 use Rattle.qed_terms.specs.declared.head.Head.TheVariants as h
 use Rattle.qed_terms.specs.declared.head.TermOp.TheVariants as op
 use Rattle.qed_terms.specs.declared.head.FormOp.TheVariants as form
-use Rattle.qed_terms.specs.Tree.{Tree, node, Trees, stop, more, list_of, head_of, kids_in, two, num, true_tree, false_tree, at_most, equal, not_of, and_of, or_of}
-use Rattle.qed_terms.specs.Meaning.{is_zero}
-use Rattle.qed_simplify.specs.Order.{same}
-use Rattle.qed_simplify.specs.Linear.{Lin, of_lin, number, is_number, minus, cut, own_form, lower, lowers, is_term, divisor, divides, tight, exact, turned}
+use Rattle.qed_terms.specs.Tree.{Tree, node, Trees, stop, more, list_of, head_of, kids_in, two, three, num, true_tree, false_tree, at_most, equal, not_of, and_of, or_of}
+use Rattle.qed_terms.specs.Operators.{is_zero}
+use Rattle.qed_terms.specs.Order.{same}
+use Rattle.qed_simplify.specs.Linear.{Lin, of_lin, number, is_number, minus, cut, own_form, lower, lowers, is_integer, divisor, divides, tight, exact, turned}
 
 abbrev pub Rule : Type 0
 Rule = Head → Trees → Option Tree
 
--- a formula may take the place of a node that is one
+-- the heads of formulas; a formula may take the place of a node that is one
 abbrev pub is_formula : Head → Bool
-is_formula head = not (is_term head)
+is_formula (h.Num z) = false
+is_formula (h.Var x s) = false
+is_formula (h.Term o) = false
+is_formula h.Ite = false
+is_formula (h.App f) = false
+is_formula head = true
 
 abbrev pub where_so : Bool → Tree → Option Tree
 where_so true t = Some t
@@ -32,6 +37,18 @@ changed make (Some f) t = differs (make f) t
 
 abbrev pub sums : Rule
 sums head ts = changed of_lin (own_form head (lowers ts)) (node head ts)
+
+-- ---- chosen arm
+
+-- The arm under `true`, under `false`, or either of two equal ones. It takes the place of an integer, so it has to be one.
+abbrev pub arm : Head → Tree → Tree → Option Tree
+arm h.True t u = where_so (is_integer (head_of t)) t
+arm h.False t u = where_so (is_integer (head_of u)) u
+arm head t u = where_so (same t u && is_integer (head_of t)) t
+
+abbrev pub chosen_arm : Rule
+chosen_arm h.Ite (more f (more t (more u stop))) = arm (head_of f) t u
+chosen_arm head ts = None
 
 -- ---- relations
 
@@ -105,6 +122,8 @@ inward h.False ts = Some true_tree
 inward h.Not (more f stop) = where_so (is_formula (head_of f)) f
 inward h.And ts = Some (node h.Or (nots ts))
 inward h.Or ts = Some (node h.And (nots ts))
+inward (h.Forall x) (more t (more u (more f stop))) = Some (node (h.Exists x) (three t u (not_of f)))
+inward (h.Exists x) (more t (more u (more f stop))) = Some (node (h.Forall x) (three t u (not_of f)))
 inward (h.Form o) ts = flipped_at (h.Form o) ts
 inward head ts = None
 
@@ -197,7 +216,7 @@ at_joints rule head ts = None
 
 abbrev pub table : List Rule
 table =
-    sums ∷ less_rule ∷ at_most_rule ∷ equal_rule ∷ imp_rule ∷ iff_rule ∷ not_rule
+    sums ∷ chosen_arm ∷ less_rule ∷ at_most_rule ∷ equal_rule ∷ imp_rule ∷ iff_rule ∷ not_rule
     ∷ at_joints flatten ∷ at_joints absorb ∷ at_joints drop_units ∷ at_joints drop_repeats ∷ at_joints oppose ∷ at_joints alone ∷ []
 
 abbrev pub first_some : {A : Type 0} → Option A → Option A → Option A

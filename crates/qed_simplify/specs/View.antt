@@ -1,5 +1,7 @@
 -- The forms and the sums that the program holds, as plain ones.
 use Rattle.std.specs.Prelude.{◌≡◌, ℕ, ◌+◌, slice_index_or, Bool, true, false, ℤ, pos, negsuc, ◌+ℤ◌, ◌*ℤ◌, List, ◌++◌, map, take, drop}
+use Rattle.qed_terms.specs.declared.head.Head.{Head}
+use Rattle.qed_terms.specs.declared.head.Head.TheVariants as h
 use Rattle.qed_terms.specs.View.{term_tree}
 use Rattle.qed_simplify.specs.declared.wide.Wide.{Wide}
 use Rattle.qed_simplify.specs.declared.forms.LinPart.{LinPart}
@@ -42,3 +44,8 @@ signed false f = f
 -- the part at this place, from 0, has that much more, and isn't kept where it is then 0
 abbrev pub IsJoined : List WidePart → ℕ → ℤ → List WidePart → Type 0
 IsJoined ps i c qs = (p : WidePart) → p ≡ slice_index_or ps i p → wide_parts qs ≡ wide_parts (take i ps) ++ keep (term_tree p.atom) (c +ℤ wide_value p.times) (wide_parts (drop (i + 1) ps))
+
+-- `forall`, or else `exists`
+abbrev pub quantifier : Bool → List ℕ → Head
+quantifier true x = h.Forall x
+quantifier false x = h.Exists x

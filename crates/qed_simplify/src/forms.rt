@@ -1,15 +1,57 @@
 // Linear forms of terms.
 ghost use Rattle.std.specs.Prelude.{◌≡◌, ℕ, ◌≤◌, pos, List, [], ◌∷◌, ◌++◌, map, length, take, drop, option_map, Some, None, IfOk, OnOk};
-ghost use Rattle.qed_terms.specs.Tree.{node, two, num, trees_of};
+ghost use Rattle.qed_terms.specs.Tree.{head_of, node, two, num, trees_of};
 ghost use Rattle.qed_terms.specs.View.{term_tree};
 ghost use Rattle.qed_terms.specs.declared.head.Head.TheVariants as h;
 ghost use Rattle.qed_terms.specs.declared.head.TermOp.TheVariants as op;
-ghost use Rattle.qed_simplify.specs.Linear.{number, atom_lin, part_tree, constant_trees, sum_tree, of_lin, scaled, cut, term_form, lower};
+ghost use Rattle.qed_simplify.specs.Linear.{is_integer, number, atom_lin, part_tree, constant_trees, sum_tree, of_lin, scaled, cut, term_form, lower};
 ghost use Rattle.qed_simplify.specs.View.{part_of, parts_of, lin_of};
 
-use qed_terms::{Term, TermOp};
+use qed_terms::{Sort, Term, TermOp};
 use std::alloc::Global;
 use wp_base::{List, NoMemory};
+
+fn makes_integer(op: &TermOp) -> bool
+    ensures { result ≡ is_integer (h.Term op.now) }
+{
+    match op {
+        TermOp::Store | TermOp::Alloc(_) | TermOp::Grow => false,
+        TermOp::Add
+        | TermOp::Sub
+        | TermOp::Mul
+        | TermOp::Neg
+        | TermOp::Div
+        | TermOp::Mod
+        | TermOp::Wrap(_)
+        | TermOp::ShiftLeft
+        | TermOp::ShiftRight
+        | TermOp::BitAnd
+        | TermOp::BitOr
+        | TermOp::BitXor
+        | TermOp::BitNot
+        | TermOp::Load
+        | TermOp::Count
+        | TermOp::Len => true,
+    }
+}
+
+/// Whether the term means an integer.
+#[tactic(auto, using(qed_terms::proofs::Equations::tree_laws))]
+pub fn is_integer(term: &Term) -> bool
+    ensures { result ≡ is_integer (head_of (term_tree term.now)) }
+{
+    match term {
+        Term::Num(_) => true,
+        Term::Var(_, sort) => match sort {
+            Sort::Int => true,
+            Sort::Memory => false,
+            Sort::Table => false,
+        },
+        Term::Op(op, _) => makes_integer(op),
+        Term::Ite(_, _, _) => true,
+        Term::App(_, _) => true,
+    }
+}
 
 /// A number times an atom.
 #[derive(Drop)]
@@ -45,7 +87,7 @@ pub fn atom(alloc: Global, atom: Term) -> Result<LinForm, NoMemory>
 
 // ---- the term of a form
 
-#[tactic(auto, using(crate::proofs::Built::tree_laws))]
+#[tactic(auto, using(qed_terms::proofs::Equations::tree_laws))]
 fn term_of_part(alloc: Global, part: LinPart) -> Result<Term, NoMemory>
     ensures { IfOk result (λ term. term_tree term ≡ part_tree (part_of part)) }
 {
@@ -65,7 +107,7 @@ fn terms_of_parts(alloc: Global, parts: Vec<LinPart>) -> Result<Vec<Term>, NoMem
     Ok(terms)
 }
 
-#[tactic(auto, using(crate::proofs::Built::tree_laws))]
+#[tactic(auto, using(qed_terms::proofs::Equations::tree_laws))]
 fn sum_of(mut terms: Vec<Term>) -> Term
     ensures { term_tree result ≡ sum_tree (map term_tree terms.items) }
 {

@@ -5,8 +5,8 @@ ghost use Rattle.qed_terms.specs.View.{formula_tree};
 ghost use Rattle.qed_simplify.specs.Rules.{flipped, is_joint, is_truth, has, among, flattened, without_units, fresh, is_opposed};
 ghost use Rattle.qed_simplify.specs.Direct.{stands, unopposed, unabsorbed, joined};
 
-use crate::compare::is_same;
-use crate::relations::{flipped, truth};
+use crate::relations::flipped;
+use crate::truths::{is_truth, truth};
 use qed_terms::Formula;
 use std::alloc::Global;
 use wp_base::{List, NoMemory};
@@ -21,7 +21,7 @@ fn append(all: &mut List<Formula>, parts: List<Formula>) -> Result<(), NoMemory>
 }
 
 // The parts of a formula of this kind, or the formula.
-#[tactic(auto, using(crate::proofs::Built::tree_laws))]
+#[tactic(auto, using(qed_terms::proofs::Equations::tree_laws))]
 fn opened(alloc: Global, all: bool, formula: Formula) -> Result<List<Formula>, NoMemory>
     ensures { IfOk result (λ parts. map formula_tree parts ≡ (if is_joint all (formula_tree formula) then list_of (kids_in (formula_tree formula)) else formula_tree formula ∷ [])) }
 {
@@ -45,6 +45,12 @@ fn opened(alloc: Global, all: bool, formula: Formula) -> Result<List<Formula>, N
         Formula::Not(part) => alone.push(Formula::Not(part))?,
         Formula::Imp(from, to) => alone.push(Formula::Imp(from, to))?,
         Formula::Iff(left, right) => alone.push(Formula::Iff(left, right))?,
+        Formula::Forall(name, low, high, part) => {
+            alone.push(Formula::Forall(name, low, high, part))?
+        }
+        Formula::Exists(name, low, high, part) => {
+            alone.push(Formula::Exists(name, low, high, part))?
+        }
     }
     Ok(alone)
 }
@@ -57,22 +63,6 @@ fn flattened(alloc: Global, all: bool, parts: List<Formula>) -> Result<List<Form
         append(&mut flat, opened(alloc, all, part)?)?;
     }
     Ok(flat)
-}
-
-#[tactic(auto, using(crate::proofs::Built::tree_laws))]
-fn is_truth(value: bool, formula: &Formula) -> bool
-    ensures { result ≡ is_truth value (formula_tree formula.now) }
-{
-    match formula {
-        Formula::True => value,
-        Formula::False => !value,
-        Formula::Rel(_, _) => false,
-        Formula::Not(_) => false,
-        Formula::And(_) => false,
-        Formula::Or(_) => false,
-        Formula::Imp(_, _) => false,
-        Formula::Iff(_, _) => false,
-    }
 }
 
 fn has_truth(value: bool, parts: &[Formula]) -> bool
@@ -102,7 +92,7 @@ fn is_among(formula: &Formula, parts: &[Formula]) -> bool
     ensures { result ≡ among (formula_tree formula.now) (map formula_tree parts.now) }
 {
     for part in parts {
-        if is_same(formula, part) {
+        if formula.is_same(part) {
             return true;
         }
     }
@@ -136,19 +126,21 @@ fn is_opposed(alloc: Global, parts: &[Formula], part: &Formula) -> Result<bool, 
     }
 }
 
-#[tactic(auto, using(crate::proofs::Built::tree_laws))]
+#[tactic(auto, using(qed_terms::proofs::Equations::tree_laws))]
 fn opposite(alloc: Global, formula: &Formula) -> Result<Option<Formula>, NoMemory>
     ensures { IfOk result (λ other. option_map formula_tree other ≡ flipped (formula_tree formula.now)) }
 {
     match formula {
-        Formula::Rel(op, terms) => flipped(alloc, *op, terms),
-        Formula::True => Ok(None),
-        Formula::False => Ok(None),
-        Formula::Not(_) => Ok(None),
-        Formula::And(_) => Ok(None),
-        Formula::Or(_) => Ok(None),
-        Formula::Imp(_, _) => Ok(None),
-        Formula::Iff(_, _) => Ok(None),
+        Formula::Rel(op, terms) => flipped(alloc, op, terms),
+        Formula::True
+        | Formula::False
+        | Formula::Not(_)
+        | Formula::And(_)
+        | Formula::Or(_)
+        | Formula::Imp(_, _)
+        | Formula::Iff(_, _)
+        | Formula::Forall(_, _, _, _)
+        | Formula::Exists(_, _, _, _) => Ok(None),
     }
 }
 
@@ -164,7 +156,7 @@ fn has_opposed(alloc: Global, parts: &[Formula]) -> Result<bool, NoMemory>
 }
 
 // One part stands alone, none is the unit.
-#[tactic(auto, using(crate::proofs::Built::tree_laws))]
+#[tactic(auto, using(qed_terms::proofs::Equations::tree_laws))]
 fn stands(all: bool, parts: List<Formula>) -> Formula
     ensures { formula_tree result ≡ stands all (map formula_tree parts) }
 {

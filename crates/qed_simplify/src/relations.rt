@@ -5,28 +5,20 @@ ghost use Rattle.qed_terms.specs.View.{term_tree, formula_tree};
 ghost use Rattle.qed_terms.specs.declared.head.Head.TheVariants as h;
 ghost use Rattle.qed_terms.specs.declared.head.TermOp.TheVariants as op;
 ghost use Rattle.qed_terms.specs.declared.head.FormOp.TheVariants as form;
-ghost use Rattle.qed_simplify.specs.Order.{same};
-ghost use Rattle.qed_simplify.specs.Linear.{of_lin, minus, cut, lower};
+ghost use Rattle.qed_terms.specs.Order.{same};
+ghost use Rattle.qed_simplify.specs.Linear.{of_lin, minus, cut, lower, or_else};
 ghost use Rattle.qed_simplify.specs.Rules.{truth_tree, at_most_tree, equal_tree, flipped_at};
 ghost use Rattle.qed_simplify.specs.Direct.{summed, at_most_of, equal_of, at_head};
 ghost use Rattle.qed_simplify.specs.View.{lin_of};
 
-use crate::compare::compare;
 use crate::divide::{divides, divisor, exact, tight, turned};
 use crate::forms::{LinForm, number, term_of};
-use crate::lowers::{lower, summed};
+use crate::lowers::{lower, over};
 use crate::sums::minus;
+use crate::truths::truth;
 use qed_terms::{FormOp, Formula, Term, TermOp};
 use std::alloc::Global;
-use std::cmp::Ordering;
 use wp_base::{List, NoMemory};
-
-#[tactic(auto, using(crate::proofs::Built::tree_laws))]
-pub fn truth(is: bool) -> Formula
-    ensures { formula_tree result ≡ truth_tree is }
-{
-    if is { Formula::True } else { Formula::False }
-}
 
 // A relation of a form and 0.
 fn with_zero(alloc: Global, op: FormOp, form: LinForm) -> Result<Formula, NoMemory>
@@ -91,25 +83,40 @@ fn equal(alloc: Global, left: &Term, right: &Term) -> Result<Formula, NoMemory>
 fn one_more(alloc: Global, term: &Term) -> Result<Term, NoMemory>
     ensures { IfOk result (λ sum. term_tree sum ≡ summed (node (h.Term op.Add) (two (term_tree term.now) (num (pos 1))))) }
 {
-    let sum = Term::over(alloc, TermOp::Add, term.copy(alloc)?, Term::number(1))?;
-    summed(alloc, &sum)
+    let mut terms = List::new(alloc);
+    terms.push(term.copy(alloc)?)?;
+    terms.push(Term::number(1))?;
+    over(alloc, TermOp::Add, terms)
 }
 
-fn of_two(alloc: Global, op: FormOp, left: &Term, right: &Term) -> Result<Formula, NoMemory>
-    ensures { IfOk result (λ formula. formula_tree formula ≡ at_head (h.Form op) (two (term_tree left.now) (term_tree right.now))) }
+// What is made of a relation over two terms that compares integers.
+fn of_two(
+    alloc: Global,
+    op: &FormOp,
+    left: &Term,
+    right: &Term,
+) -> Result<Option<Formula>, NoMemory>
+    ensures { IfOk result (λ formula. or_else (option_map formula_tree formula) (node (h.Form op.now) (two (term_tree left.now) (term_tree right.now))) ≡ at_head (h.Form op.now) (two (term_tree left.now) (term_tree right.now))) }
 {
     match op {
-        FormOp::Equal => equal(alloc, left, right),
-        FormOp::AtMost => at_most(alloc, left, right),
+        FormOp::Equal => Ok(Some(equal(alloc, left, right)?)),
+        FormOp::AtMost => Ok(Some(at_most(alloc, left, right)?)),
         FormOp::Less => {
             let more = one_more(alloc, left)?;
-            at_most(alloc, &more, right)
+            Ok(Some(at_most(alloc, &more, right)?))
         }
+        FormOp::Same
+        | FormOp::Read(_)
+        | FormOp::Write(_)
+        | FormOp::Live
+        | FormOp::Has(_)
+        | FormOp::WellFormed(_)
+        | FormOp::Frame(_) => Ok(None),
     }
 }
 
 /// The normal form of a relation of terms that are in normal form.
-#[tactic(auto, using(crate::proofs::Built::tree_laws))]
+#[tactic(auto, using(qed_terms::proofs::Equations::tree_laws))]
 pub fn relation(alloc: Global, op: FormOp, terms: List<Term>) -> Result<Formula, NoMemory>
     ensures { IfOk result (λ formula. formula_tree formula ≡ at_head (h.Form op) (trees_of (map term_tree terms))) }
 {
@@ -117,13 +124,16 @@ pub fn relation(alloc: Global, op: FormOp, terms: List<Term>) -> Result<Formula,
         return Ok(Formula::Rel(op, terms));
     }
     let pair = terms.as_slice();
-    of_two(alloc, op, &pair[0], &pair[1])
+    match of_two(alloc, &op, &pair[0], &pair[1])? {
+        Some(formula) => Ok(formula),
+        None => Ok(Formula::Rel(op, terms)),
+    }
 }
 
 fn is_zero(term: &Term) -> bool
     ensures { result ≡ same (term_tree term.now) (num (pos 0)) }
 {
-    compare(term, &Term::number(0)) == Ordering::Equal
+    term.is_same(&Term::number(0))
 }
 
 // 1 - L <= 0 of L <= 0, where its numbers fit.
@@ -141,8 +151,8 @@ fn flipped_at_most(alloc: Global, term: &Term, zero: &Term) -> Result<Option<For
 }
 
 /// The negation of a relation in normal form, where that isn't its `not`.
-pub fn flipped(alloc: Global, op: FormOp, terms: &List<Term>) -> Result<Option<Formula>, NoMemory>
-    ensures { IfOk result (λ formula. option_map formula_tree formula ≡ flipped_at (h.Form op) (trees_of (map term_tree terms.now))) }
+pub fn flipped(alloc: Global, op: &FormOp, terms: &List<Term>) -> Result<Option<Formula>, NoMemory>
+    ensures { IfOk result (λ formula. option_map formula_tree formula ≡ flipped_at (h.Form op.now) (trees_of (map term_tree terms.now))) }
 {
     match op {
         FormOp::AtMost => {
@@ -152,7 +162,14 @@ pub fn flipped(alloc: Global, op: FormOp, terms: &List<Term>) -> Result<Option<F
             }
             flipped_at_most(alloc, &pair[0], &pair[1])
         }
-        FormOp::Equal => Ok(None),
-        FormOp::Less => Ok(None),
+        FormOp::Equal
+        | FormOp::Less
+        | FormOp::Same
+        | FormOp::Read(_)
+        | FormOp::Write(_)
+        | FormOp::Live
+        | FormOp::Has(_)
+        | FormOp::WellFormed(_)
+        | FormOp::Frame(_) => Ok(None),
     }
 }

@@ -4,8 +4,7 @@ ghost use Rattle.qed_terms.specs.View.{term_tree};
 ghost use Rattle.qed_simplify.specs.Linear.{part, number, plus, minus, total_lin, keep, into, merged, scaled, cut};
 ghost use Rattle.qed_simplify.specs.View.{lin_of, parts_of, signed, signed_value, IsJoined, wide_value, wide_parts, wide_lin};
 
-use crate::compare::compare;
-use crate::forms::{LinForm, LinPart, number};
+use crate::forms::{LinForm, LinPart, is_integer, number};
 use crate::wide::Wide;
 use qed_terms::Term;
 use std::alloc::Global;
@@ -54,7 +53,7 @@ fn put(parts: &mut Vec<WidePart>, atom: Term, times: Wide) -> Result<(), NoMemor
 {
     let mut at = 0;
     while at < parts.len() {
-        match compare(&atom, &parts[at].atom) {
+        match atom.compare(&parts[at].atom) {
             Ordering::Less => return insert(parts, at, atom, times),
             Ordering::Equal => return join(parts, at, times),
             Ordering::Greater => at += 1,
@@ -118,12 +117,15 @@ fn add_form(alloc: Global, sum: WideForm, form: &LinForm) -> Result<WideForm, No
     Ok(WideForm { parts, constant })
 }
 
-// The form, where its numbers fit.
+// The form, where its atoms are integers and its numbers fit.
 fn narrow(alloc: Global, sum: WideForm) -> Result<Option<LinForm>, NoMemory>
     ensures { IfOk result (λ form. option_map lin_of form ≡ cut (wide_lin sum)) }
 {
     let mut parts = Vec::new(alloc);
     for part in sum.parts {
+        if !is_integer(&part.atom) {
+            return Ok(None);
+        }
         match part.times.narrow() {
             Some(times) => push_part(&mut parts, part.atom, times)?,
             None => return Ok(None),
@@ -135,7 +137,7 @@ fn narrow(alloc: Global, sum: WideForm) -> Result<Option<LinForm>, NoMemory>
     }
 }
 
-/// The sum of forms, where its numbers fit.
+/// The sum of forms, where its atoms are integers and its numbers fit.
 pub fn total(alloc: Global, forms: &[LinForm]) -> Result<Option<LinForm>, NoMemory>
     ensures { IfOk result (λ form. option_map lin_of form ≡ cut (total_lin (map lin_of forms.now))) }
 {
@@ -177,6 +179,9 @@ pub fn scale(alloc: Global, by: i128, form: &LinForm) -> Result<Option<LinForm>,
     }
     let mut parts = Vec::new(alloc);
     for part in &form.parts {
+        if !is_integer(&part.atom) {
+            return Ok(None);
+        }
         match by.checked_mul(part.times) {
             Some(times) => push_part(&mut parts, part.atom.copy(alloc)?, times)?,
             None => return Ok(None),

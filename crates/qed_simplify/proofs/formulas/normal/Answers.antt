@@ -1,5 +1,5 @@
 use Rattle.std.proofs.Common.{◌≡◌, sym, ◌∙◌, ap, subst}
-use Rattle.qed_terms.specs.Meaning.{Values, truth}
+use Rattle.qed_terms.specs.Meaning.{World, Values, truth}
 use Rattle.qed_terms.specs.View.{formula_tree}
 use Rattle.qed_simplify.specs.Rules.{step}
 use Rattle.qed_simplify.specs.Normal.{Normal}
@@ -17,4 +17,4 @@ returns-clause-normal c =
 pub returns-clause-same : goal.returns-clause-same
 returns-clause-same c =
     let t = formula_tree c.args.formula.now in
-    if_ok c.bring.result (λ r. formula_tree r ≡ brought t) (λ r. (env : Values) → truth env (formula_tree r) ≡ truth env t) (λ r k env. ap (truth env) k ∙ brought_means t env) c.bring.ensures
+    if_ok c.bring.result (λ r. formula_tree r ≡ brought t) (λ r. (w : World) (env : Values) → truth w env (formula_tree r) ≡ truth w env t) (λ r k w env. ap (truth w env) k ∙ brought_means t w env) c.bring.ensures

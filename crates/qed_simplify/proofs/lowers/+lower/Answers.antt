@@ -1,8 +1,8 @@
-use Rattle.std.proofs.Common.{◌≡◌, ◌∙◌, sym, ap, map, rules, FitsSigned, Some, None, option_map}
+use Rattle.std.proofs.Common.{◌≡◌, ◌∙◌, sym, ap, rules, FitsSigned, Some, None, option_map}
 use Rattle.std.specs.Int.{w128}
 use Rattle.std.proofs.lemmas.Int.{to_z-of_z}
 use Rattle.qed_terms.specs.View.{term_tree}
-use Rattle.qed_simplify.specs.Linear.{number, lower, term_form, atom_lin}
+use Rattle.qed_simplify.specs.Linear.{number, lower, atom_lin}
 use Rattle.qed_simplify.specs.View.{lin_of}
 use Rattle.qed_simplify.proofs.Lowering.{lower_num, lower_op}
 use Rattle.qed_simplify.proofs.Places.{if_ok}
@@ -15,18 +15,15 @@ lower-returns-in-Num t c =
 
 pub lower-returns-in-Some : goal.lower-returns-in-Some
 lower-returns-in-Some t c =
-    let fs = c.in_ok-forms-in-Op.forms.items in
-    let g = sym (ap (option_map lin_of) c.in-Some.is) ∙ c.in_ok-form-in-Op.ensures ∙ ap (λ ys. term_form c.in-Op.op (map lin_of ys)) c.as_slice.ensures.value in
-    sym (lower_op c.in-Op.op c.in-Op.kids fs (Some (lin_of c.in-Some.form)) c.in_ok-forms-in-Op.ensures g) ∙ ap (λ x. lower (term_tree x)) (sym c.in-Op.is)
+    let form = sym (ap (option_map lin_of) c.in-Some.is) ∙ c.in_ok-form-in-Op.ensures in
+    sym (lower_op c.in-Op.op c.in-Op.kids (Some (lin_of c.in-Some.form)) form) ∙ ap (λ x. lower (term_tree x)) (sym c.in-Op.is)
 
-pub lower-returns : goal.lower-returns
-lower-returns t c =
-    let fs = c.in_ok-forms-in-Op.forms.items in
-    let g = sym (ap (option_map lin_of) c.in-None.is) ∙ c.in_ok-form-in-Op.ensures ∙ ap (λ ys. term_form c.in-Op.op (map lin_of ys)) c.as_slice.ensures.value in
-    let same = sym (lower_op c.in-Op.op c.in-Op.kids fs None c.in_ok-forms-in-Op.ensures g) ∙ ap (λ x. lower (term_tree x)) (sym c.in-Op.is) in
-    let e = c.in_ok-copy-in-None.ensures in
-    if_ok c.atom-in-None.result
+pub lower-returns-in_ok-copy-in-None : goal.lower-returns-in_ok-copy-in-None
+lower-returns-in_ok-copy-in-None t c =
+    let form = sym (ap (option_map lin_of) c.in-None.is) ∙ c.in_ok-form-in-Op.ensures in
+    let same = sym (lower_op c.in-Op.op c.in-Op.kids None form) ∙ ap (λ x. lower (term_tree x)) (sym c.in-Op.is) in
+    if_ok c.atom.result
     (λ form. lin_of form ≡ atom_lin (term_tree c.in_ok-copy-in-None.field-0))
     (λ form. lin_of form ≡ lower (term_tree c.args.term.now))
-    (λ form k. k ∙ ap (λ x. atom_lin (term_tree x)) (e ∙ c.in-Op.is) ∙ same)
-    c.atom-in-None.ensures
+    (λ form k. k ∙ ap (λ x. atom_lin (term_tree x)) (c.in_ok-copy-in-None.ensures ∙ c.in-Op.is) ∙ same)
+    c.atom.ensures

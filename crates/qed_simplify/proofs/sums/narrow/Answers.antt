@@ -1,9 +1,9 @@
-use Rattle.std.proofs.Common.{length, ap, refl, arith, rules, FitsSigned}
+use Rattle.std.proofs.Common.{length, sym, ◌∙◌, ap, refl, arith, rules, FitsSigned}
 use Rattle.std.specs.Int.{w128}
 use Rattle.std.proofs.lemmas.Int.{to_z-of_z}
 use Rattle.qed_terms.specs.View.{term_tree}
 use Rattle.qed_simplify.specs.View.{parts_of, wide_value, wide_lin}
-use Rattle.qed_simplify.proofs.Gathered.{narrowed_more, hold_more, narrow_fails, narrow_done, last_fails}
+use Rattle.qed_simplify.proofs.Gathered.{narrowed_more, hold_more, narrow_fails, narrow_refuses, narrow_done, last_fails}
 use Rattle.qed_simplify.proofs.Places.{none_left}
 use Rattle.qed_simplify.proofs.sums.narrow.Goals as goal
 
@@ -19,8 +19,12 @@ loop-part-preserved c =
     record {
       count = omega (arith, ap length c.in-Some.ensures.steps.0);
       so_far = narrowed_more ls ls' w c.loop-part.part-iterator.rest.items c.next.new.self.rest.items c.args.sum.parts.items (term_tree w.atom) z c.loop-part.invariant.so_far c.in-Some.ensures.steps.0 refl c.in-Some-narrow.ensures.1 g;
-      hold = hold_more (parts_of ls) (parts_of ls') w.atom z c.loop-part.invariant.hold fits g;
+      hold = hold_more (parts_of ls) (parts_of ls') (term_tree w.atom) z c.loop-part.invariant.hold (sym c.is_integer.ensures ∙ c.if-not-is_integer.false) fits g;
     }
+
+pub returns-then-not-is_integer : goal.returns-then-not-is_integer
+returns-then-not-is_integer c =
+    narrow_refuses c.loop-part.parts.items c.in-Some.part c.loop-part.part-iterator.rest.items c.next.new.self.rest.items c.args.sum.parts.items (wide_value c.args.sum.constant) c.loop-part.invariant.so_far c.in-Some.ensures.steps.0 (sym c.is_integer.ensures ∙ c.if-not-is_integer.true)
 
 pub returns-in-None-narrow : goal.returns-in-None-narrow
 returns-in-None-narrow c =

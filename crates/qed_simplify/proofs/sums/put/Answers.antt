@@ -1,6 +1,6 @@
 use Rattle.std.proofs.Common.{◌≡◌, ◌++◌, take, drop, sym, ◌∙◌, ap, arith}
 use Rattle.qed_terms.specs.View.{term_tree}
-use Rattle.qed_simplify.specs.Order.{tree_cmp}
+use Rattle.qed_terms.specs.Order.{tree_cmp}
 use Rattle.qed_simplify.specs.Linear.{keep, into}
 use Rattle.qed_simplify.specs.View.{wide_value, wide_parts, IsJoined}
 use Rattle.qed_simplify.proofs.Gathered.{pass_less, pass_equal, pass_end}

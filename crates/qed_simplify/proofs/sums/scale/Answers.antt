@@ -1,10 +1,11 @@
-use Rattle.std.proofs.Common.{◌≡◌, take_all, of_z, Some, pos, ◌∙◌, ap, arith, rules, FitsSigned}
+use Rattle.std.proofs.Common.{◌≡◌, take_all, of_z, Some, pos, sym, ◌∙◌, ap, arith, rules, FitsSigned}
 use Rattle.std.specs.Int.{w128}
 use Rattle.std.proofs.lemmas.Int.{to_z-of_z, ints}
+use Rattle.qed_terms.specs.Tree.{head_of}
 use Rattle.qed_terms.specs.View.{term_tree}
-use Rattle.qed_simplify.specs.Linear.{times_parts}
+use Rattle.qed_simplify.specs.Linear.{is_integer, times_parts}
 use Rattle.qed_simplify.specs.View.{parts_of, lin_of}
-use Rattle.qed_simplify.proofs.Gathered.{times_more, hold_more, scale_zero, scale_fails, scale_last_fails, scale_done}
+use Rattle.qed_simplify.proofs.Gathered.{times_more, hold_more, scale_zero, scale_fails, scale_refuses, scale_last_fails, scale_done}
 use Rattle.qed_simplify.proofs.sums.scale.Goals as goal
 
 pub returns-then-by-eq0 : goal.returns-then-by-eq0
@@ -26,10 +27,16 @@ loop-part-preserved c =
     let ls = c.loop-part.parts.items in
     let ls' = c.push_part.new.parts.items in
     let a = ap term_tree c.in_ok-copy-in-Some.ensures in
+    let whole = ap (λ y. is_integer (head_of y)) a ∙ sym c.is_integer.ensures ∙ c.if-not-is_integer.false in
     rw b (record {
       so_far = times_more c.args.by ls ls' c.args.form.now.parts.items c.loop-part.part-index x (term_tree c.in_ok-copy-in-Some.field-0) d (omega arith) p a e.1 (rw b at c.loop-part.invariant.so_far) g;
-      hold = hold_more (parts_of ls) (parts_of ls') c.in_ok-copy-in-Some.field-0 d c.loop-part.invariant.hold fits g;
+      hold = hold_more (parts_of ls) (parts_of ls') (term_tree c.in_ok-copy-in-Some.field-0) d c.loop-part.invariant.hold whole fits g;
     })
+
+pub returns-then-not-is_integer : goal.returns-then-not-is_integer
+returns-then-not-is_integer c =
+    let p = rw c.deref-part-items.ensures.value at c.part-item.is in
+    scale_refuses c.args.by c.args.form.now c.loop-part.part-index c.part-item.result (λ e. c.if-by-eq0.false (ap (of_z w128) e)) (omega arith) p (sym c.is_integer.ensures ∙ c.if-not-is_integer.true)
 
 pub returns-in-None : goal.returns-in-None
 returns-in-None c =

@@ -3,7 +3,7 @@ use Rattle.qed_terms.specs.View.{formula_tree}
 use Rattle.qed_simplify.specs.Direct.{joined, negated}
 use Rattle.qed_simplify.proofs.Passes.{negated_not, negated_and, negated_or}
 use Rattle.qed_simplify.proofs.Places.{if_ok}
-use Rattle.qed_simplify.proofs.formulas.+negated.Goals as goal
+use Rattle.qed_simplify.proofs.negations.+negated.Goals as goal
 
 pub negated-returns-in-Not : goal.negated-returns-in-Not
 negated-returns-in-Not t c =

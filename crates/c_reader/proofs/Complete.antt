@@ -1,5 +1,5 @@
 -- The reader on lists reads whatever the grammar spells.
-use Rattle.std.proofs.Common.{◌≡◌, ℕ, zero, suc, ◌+◌, ◌≤◌, ◌<◌, Bool, List, [], ◌∷◌, ◌++◌, length, codes, Some, None, refl, ap, ◌∙◌, arith, append_assoc, length-append}
+use Rattle.std.proofs.Common.{◌≡◌, ℕ, zero, suc, ◌+◌, ◌≤◌, ◌<◌, Bool, true, false, List, [], ◌∷◌, ◌++◌, length, codes, Some, None, refl, sym, ap, ◌∙◌, subst, arith, append_assoc, length-append}
 use Rattle.core_prog.specs.declared.tree.SumOp.{SumOp}
 use Rattle.core_prog.specs.declared.tree.SumOp.TheVariants as op
 use Rattle.core_prog.specs.declared.tree.Comparison.{Comparison}
@@ -11,44 +11,16 @@ use Rattle.c_reader.specs.declared.contracts.Keyword.TheVariants as keyword
 use Rattle.c_reader.specs.Grammar as g
 use Rattle.c_reader.specs.Reader as r
 use Rattle.c_reader.specs.Reader.{Reader, ◌>>=◌}
-use Rattle.c_reader.proofs.Reading.{chain_stops, conjunction_stops, file_goes}
+use Rattle.c_reader.proofs.Reading.{inner_is, expr_is, chain_stops, conjunction_stops}
 
--- ---- sums
-
-atom_complete : {annotated : Bool} {xs : List Token} {e : t.Expr} → g.SpellsAtom annotated xs e → (rest : List Token) → r.atom annotated (xs ++ rest) ≡ Some (e, rest)
-atom_complete g.named rest = refl
-atom_complete g.numbered rest = refl
-atom_complete g.result rest = refl
+-- ---- expressions
 
 operator_reads : (o : SumOp) (line : ℕ) (rest : List Token) → r.operator (g.mark (g.sum_mark o) line ∷ rest) ≡ Some ((o, line), rest)
 operator_reads op.Plus line rest = refl
 operator_reads op.Minus line rest = refl
 
--- the reader has read it, and goes on with what comes after
-abbrev Reads : {X : Type 0} → Reader X → (ℕ → X → Reader X) → List Token → X → Type 0
-Reads read go xs x = (rest : List Token) → (turns : ℕ) × (length rest ≤ turns) × (read (xs ++ rest) ≡ go turns x rest)
-
-chain_takes : (annotated : Bool) (turns line : ℕ) (o : SumOp) (a b : t.Expr) (ts rest : List Token) → suc (length rest) ≤ turns → r.atom annotated ts ≡ Some (b, rest)
-    → (turns' : ℕ) × (length rest ≤ turns') × (r.chain annotated turns a (g.mark (g.sum_mark o) line ∷ ts) ≡ r.chain annotated turns' (t.sum o line a b) rest)
-unfolding r.chain
-chain_takes annotated zero line o a b ts rest le read = absurd (omega arith)
-chain_takes annotated (suc turns) line o a b ts rest le read = (turns, omega arith, rw (operator_reads o line ts, read) refl)
-
-sum_reads : {annotated : Bool} {xs : List Token} {e : t.Expr} → g.SpellsSum annotated xs e → Reads (r.sum annotated) (r.chain annotated) xs e
-sum_reads (g.atom {annotated} s) rest =
-    (length rest, omega arith, ap (λ o. o >>= λ a. r.chain annotated (length a.1) a.0 a.1) (atom_complete s rest))
-sum_reads (g.sum {annotated} {line} {o} {left} {right} {all} {a} {b} s part eq) rest =
-    let tok = g.mark (g.sum_mark o) line in
-    let x = sum_reads s (tok ∷ (right ++ rest)) in
-    let y = chain_takes annotated x.0 line o a b (right ++ rest) rest (omega (arith, x.1, length-append right rest)) (atom_complete part rest) in
-    (y.0, y.1, ap (λ all. r.sum annotated (all ++ rest)) eq ∙ ap (r.sum annotated) (append_assoc left (tok ∷ right) rest) ∙ x.2 ∙ y.2)
-
-sum_complete : {annotated : Bool} {xs : List Token} {e : t.Expr} → g.SpellsSum annotated xs e → (rest : List Token) → r.operator rest ≡ None → r.sum annotated (xs ++ rest) ≡ Some (e, rest)
-sum_complete {annotated} {xs} {e} s rest h = let x = sum_reads s rest in x.2 ∙ chain_stops annotated x.0 e rest h
-
--- ---- predicates
-
-comparison_reads : (test : Comparison) (line : ℕ) (rest : List Token) → (r.comparison (g.mark (g.comparison_mark test) line ∷ rest) ≡ Some (test, rest)) × (r.operator (g.mark (g.comparison_mark test) line ∷ rest) ≡ None)
+comparison_reads : (how : Comparison) (line : ℕ) (rest : List Token)
+    → (r.comparison (g.mark (g.comparison_mark how) line ∷ rest) ≡ Some ((how, line), rest)) × (r.operator (g.mark (g.comparison_mark how) line ∷ rest) ≡ None)
 comparison_reads c.Less line rest = (refl, refl)
 comparison_reads c.AtMost line rest = (refl, refl)
 comparison_reads c.Greater line rest = (refl, refl)
@@ -56,12 +28,87 @@ comparison_reads c.AtLeast line rest = (refl, refl)
 comparison_reads c.Equal line rest = (refl, refl)
 comparison_reads c.NotEqual line rest = (refl, refl)
 
+-- the reader of atoms
+abbrev operand : (annotated : Bool) (room : ℕ) → Reader t.Expr
+operand annotated room = r.atom annotated (r.inner annotated room)
+
+-- a sum was read, and its reader goes on with what comes after
+abbrev SumReads : (annotated : Bool) (room : ℕ) → List Token → t.Expr → List Token → Type 0
+SumReads annotated room xs e rest = (turns : ℕ) × (length rest ≤ turns) × (r.sum annotated room (xs ++ rest) ≡ r.chain (operand annotated room) turns e rest)
+
+chain_takes : (read : Reader t.Expr) (turns line : ℕ) (o : SumOp) (a b : t.Expr) (ts rest : List Token) → suc (length rest) ≤ turns → read ts ≡ Some (b, rest)
+    → (turns' : ℕ) × (length rest ≤ turns') × (r.chain read turns a (g.mark (g.sum_mark o) line ∷ ts) ≡ r.chain read turns' (t.sum o line a b) rest)
+unfolding r.chain
+chain_takes read zero line o a b ts rest le h = absurd (omega arith)
+chain_takes read (suc turns) line o a b ts rest le h = (turns, omega arith, rw (operator_reads o line ts, h) refl)
+
+one_reads : (annotated : Bool) (room : ℕ) (xs : List Token) (e : t.Expr) (rest : List Token) → operand annotated room (xs ++ rest) ≡ Some (e, rest) → SumReads annotated room xs e rest
+one_reads annotated room xs e rest h = (length rest, omega arith, ap (λ o. o >>= λ a. r.chain (operand annotated room) (length a.1) a.0 a.1) h)
+
+more_reads : (annotated : Bool) (room line : ℕ) (o : SumOp) (left right : List Token) (a b : t.Expr) (rest : List Token) → SumReads annotated room left a (g.mark (g.sum_mark o) line ∷ (right ++ rest))
+    → operand annotated room (right ++ rest) ≡ Some (b, rest) → SumReads annotated room (left ++ g.mark (g.sum_mark o) line ∷ right) (t.sum o line a b) rest
+more_reads annotated room line o left right a b rest x h =
+    let tok = g.mark (g.sum_mark o) line in
+    let first = x.1 in
+    let y = chain_takes (operand annotated room) x.0 line o a b (right ++ rest) rest (omega (arith, first, length-append right rest)) h in
+    (y.0, y.1, ap (r.sum annotated room) (append_assoc left (tok ∷ right) rest) ∙ x.2 ∙ y.2)
+
+sum_ends : (annotated : Bool) (room : ℕ) (xs : List Token) (e : t.Expr) (rest : List Token) → SumReads annotated room xs e rest → r.operator rest ≡ None → r.sum annotated room (xs ++ rest) ≡ Some (e, rest)
+sum_ends annotated room xs e rest x h = x.2 ∙ chain_stops (operand annotated room) x.0 e rest h
+
+alone_ends : (annotated : Bool) (room : ℕ) (xs : List Token) (e : t.Expr) (rest : List Token) → r.sum annotated room (xs ++ rest) ≡ Some (e, rest) → r.comparison rest ≡ None → r.expr annotated room (xs ++ rest) ≡ Some (e, rest)
+alone_ends true room xs e rest h none = expr_is true room (xs ++ rest) ∙ rw h refl
+alone_ends false room xs e rest h none = expr_is false room (xs ++ rest) ∙ rw (h, none) refl
+
+test_ends : (room line : ℕ) (how : Comparison) (left right : List Token) (a b : t.Expr) (rest : List Token) → r.sum false room (left ++ g.mark (g.comparison_mark how) line ∷ (right ++ rest)) ≡ Some (a, g.mark (g.comparison_mark how) line ∷ (right ++ rest))
+    → r.sum false room (right ++ rest) ≡ Some (b, rest) → r.expr false room ((left ++ g.mark (g.comparison_mark how) line ∷ right) ++ rest) ≡ Some (t.test how line a b, rest)
+test_ends room line how left right a b rest first second =
+    let tok = g.mark (g.comparison_mark how) line in
+    ap (r.expr false room) (append_assoc left (tok ∷ right) rest) ∙ expr_is false room (left ++ tok ∷ (right ++ rest))
+    ∙ rw (first, (comparison_reads how line (right ++ rest)).0, second) refl
+
+-- what comes after an opening parenthesis
+pub enclosed_ends : (annotated : Bool) (room line : ℕ) (inside : List Token) (e : t.Expr) (rest : List Token) → r.expr annotated room (inside ++ g.mark m.CloseParen line ∷ rest) ≡ Some (e, g.mark m.CloseParen line ∷ rest)
+    → r.enclosed (r.inner annotated (suc room)) ((inside ++ g.mark m.CloseParen line ∷ []) ++ rest) ≡ Some (e, rest)
+enclosed_ends annotated room line inside e rest h =
+    let close' = g.mark m.CloseParen line in
+    ap (r.enclosed (r.inner annotated (suc room))) (append_assoc inside (close' ∷ []) rest)
+    ∙ ap (λ o. o >>= λ e. r.expect m.CloseParen e.1 >>= λ rest. Some (e.0, rest)) (inner_is annotated room (inside ++ close' ∷ rest) ∙ h)
+
+mutual
+  atom_complete : {annotated : Bool} {room : ℕ} {xs : List Token} {e : t.Expr} → g.SpellsAtom annotated room xs e → (rest : List Token) → r.atom annotated (r.inner annotated room) (xs ++ rest) ≡ Some (e, rest)
+  atom_complete g.named rest = refl
+  atom_complete g.numbered rest = refl
+  atom_complete g.result rest = refl
+  atom_complete (g.parentheses {annotated} {room} line line' {inside} {all} {e} s eq) rest =
+      ap (λ all. r.atom annotated (r.inner annotated (suc room)) (all ++ rest)) eq
+      ∙ enclosed_ends annotated room line' inside e rest (expr_complete s (g.mark m.CloseParen line' ∷ rest) refl refl)
+
+  sum_reads : {annotated : Bool} {room : ℕ} {xs : List Token} {e : t.Expr} → g.SpellsSum annotated room xs e → (rest : List Token) → SumReads annotated room xs e rest
+  sum_reads (g.atom {annotated} {room} {all} {e} s) rest = one_reads annotated room all e rest (atom_complete s rest)
+  sum_reads (g.sum {annotated} {room} {line} {o} {left} {right} {all} {a} {b} s part eq) rest =
+      subst (λ all. SumReads annotated room all (t.sum o line a b) rest) (sym eq)
+      (more_reads annotated room line o left right a b rest (sum_reads s (g.mark (g.sum_mark o) line ∷ (right ++ rest))) (atom_complete part rest))
+
+  pub expr_complete : {annotated : Bool} {room : ℕ} {xs : List Token} {e : t.Expr} → g.SpellsExpr annotated room xs e → (rest : List Token) → r.operator rest ≡ None → r.comparison rest ≡ None → r.expr annotated room (xs ++ rest) ≡ Some (e, rest)
+  expr_complete (g.alone {annotated} {room} {all} {e} s) rest h none = alone_ends annotated room all e rest (sum_ends annotated room all e rest (sum_reads s rest) h) none
+  expr_complete (g.test {room} {line} {how} {left} {right} {all} {a} {b} s s' eq) rest h none =
+      let tok = g.mark (g.comparison_mark how) line in
+      let first = sum_ends false room left a (tok ∷ (right ++ rest)) (sum_reads s (tok ∷ (right ++ rest))) (comparison_reads how line (right ++ rest)).1 in
+      let second = sum_ends false room right b rest (sum_reads s' rest) h in
+      ap (λ all. r.expr false room (all ++ rest)) eq ∙ test_ends room line how left right a b rest first second
+
+-- ---- predicates
+
+term_complete : {xs : List Token} {e : t.Expr} → g.SpellsSum true g.most_open xs e → (rest : List Token) → r.operator rest ≡ None → r.term (xs ++ rest) ≡ Some (e, rest)
+term_complete {xs} {e} s rest h = sum_ends true g.most_open xs e rest (sum_reads s rest) h
+
 compared_complete : {xs : List Token} {p : t.Pred} → g.SpellsComparison xs p → (rest : List Token) → r.operator rest ≡ None → r.compared (xs ++ rest) ≡ Some (p, rest)
-compared_complete (g.compare line {test} {left} {right} {all} {a} {b} s s' eq) rest h =
-    let tok = g.mark (g.comparison_mark test) line in
-    let tested = comparison_reads test line (right ++ rest) in
-    let first = sum_complete s (tok ∷ (right ++ rest)) tested.1 in
-    ap (λ all. r.compared (all ++ rest)) eq ∙ ap r.compared (append_assoc left (tok ∷ right) rest) ∙ rw (first, tested.0, sum_complete s' rest h) refl
+compared_complete (g.compare line {how} {left} {right} {all} {a} {b} s s' eq) rest h =
+    let tok = g.mark (g.comparison_mark how) line in
+    let found = comparison_reads how line (right ++ rest) in
+    let first = term_complete s (tok ∷ (right ++ rest)) found.1 in
+    ap (λ all. r.compared (all ++ rest)) eq ∙ ap r.compared (append_assoc left (tok ∷ right) rest) ∙ rw (first, found.0, term_complete s' rest h) refl
 
 conjunction_takes : (turns line : ℕ) (p q : t.Pred) (ts rest : List Token) → suc (length rest) ≤ turns → r.compared ts ≡ Some (q, rest)
     → (turns' : ℕ) × (length rest ≤ turns') × (r.conjunction turns p (g.mark m.And line ∷ ts) ≡ r.conjunction turns' (t.both p q) rest)
@@ -82,7 +129,7 @@ pred_reads (g.both line {left} {right} {all} {p} {q} s part eq) rest h =
     (y.0, y.1, ap (λ all. r.pred (all ++ rest)) eq ∙ ap r.pred (append_assoc left (tok ∷ right) rest) ∙ x.2 ∙ y.2)
 
 -- a predicate and a semicolon
-pred_complete : {xs : List Token} {p : t.Pred} → g.SpellsPred xs p → (line : ℕ) (rest : List Token) → r.pred (xs ++ g.mark m.Semicolon line ∷ rest) ≡ Some (p, g.mark m.Semicolon line ∷ rest)
+pub pred_complete : {xs : List Token} {p : t.Pred} → g.SpellsPred xs p → (line : ℕ) (rest : List Token) → r.pred (xs ++ g.mark m.Semicolon line ∷ rest) ≡ Some (p, g.mark m.Semicolon line ∷ rest)
 pred_complete {xs} {p} s line rest =
     let x = pred_reads s (g.mark m.Semicolon line ∷ rest) refl in
     x.2 ∙ conjunction_stops x.0 p (g.mark m.Semicolon line ∷ rest) refl
@@ -98,31 +145,31 @@ ensures_reads : {xs : List Token} {p : t.Pred} → g.SpellsPred xs p → (line l
 ensures_reads s line line' rest = rw (pred_complete s line' rest) refl
 
 clauses_complete : {xs : List Token} {rs es : List t.Clause} → g.SpellsClauses xs rs es → (line : ℕ) (rest : List Token) (turns : ℕ) → length xs < turns
-    → r.clauses turns (xs ++ g.mark m.CloseContract line ∷ rest) ≡ Some ((rs, es), rest)
+    → r.clauses turns (xs ++ g.mark m.CloseAnnotation line ∷ rest) ≡ Some ((rs, es), rest)
 unfolding r.clauses
 clauses_complete s line rest zero lt = absurd (omega arith)
 clauses_complete g.none line rest (suc turns) lt = refl
 clauses_complete (g.requires {line} line' {first} {rest = after} {all} {p} {rs} {es} s others eq) close rest (suc turns) lt =
     let head = g.name (codes "requires") line in
-    let end = g.mark m.CloseContract close ∷ rest in
+    let end = g.mark m.CloseAnnotation close ∷ rest in
     let regrouped : (head ∷ (first ++ g.mark m.Semicolon line' ∷ after)) ++ end ≡ head ∷ (first ++ g.mark m.Semicolon line' ∷ (after ++ end)) = simp append_assoc in
     let fewer : length after < turns = omega (arith, lt, ap length eq, length-append first (g.mark m.Semicolon line' ∷ after)) in
     ap (λ all. r.clauses (suc turns) (all ++ end)) eq ∙ ap (r.clauses (suc turns)) regrouped
     ∙ rw (requires_reads s line line' (after ++ end), clauses_complete others close rest turns fewer) refl
 clauses_complete (g.ensures {line} line' {first} {rest = after} {all} {p} {rs} {es} s others eq) close rest (suc turns) lt =
     let head = g.name (codes "ensures") line in
-    let end = g.mark m.CloseContract close ∷ rest in
+    let end = g.mark m.CloseAnnotation close ∷ rest in
     let regrouped : (head ∷ (first ++ g.mark m.Semicolon line' ∷ after)) ++ end ≡ head ∷ (first ++ g.mark m.Semicolon line' ∷ (after ++ end)) = simp append_assoc in
     let fewer : length after < turns = omega (arith, lt, ap length eq, length-append first (g.mark m.Semicolon line' ∷ after)) in
     ap (λ all. r.clauses (suc turns) (all ++ end)) eq ∙ ap (r.clauses (suc turns)) regrouped
     ∙ rw (ensures_reads s line line' (after ++ end), clauses_complete others close rest turns fewer) refl
 
-contract_complete : {xs : List Token} {rs es : List t.Clause} → g.SpellsContract xs rs es → (rest : List Token) → r.expect m.OpenContract rest ≡ None → r.contract_at (xs ++ rest) ≡ Some ((rs, es), rest)
+pub contract_complete : {xs : List Token} {rs es : List t.Clause} → g.SpellsContract xs rs es → (rest : List Token) → r.expect m.OpenAnnotation rest ≡ None → r.contract_at (xs ++ rest) ≡ Some ((rs, es), rest)
 contract_complete g.none rest h = rw h refl
 contract_complete (g.contract line line' {inside} {all} s eq) rest h =
-    let regrouped : (g.mark m.OpenContract line ∷ (inside ++ g.mark m.CloseContract line' ∷ [])) ++ rest ≡ g.mark m.OpenContract line ∷ (inside ++ g.mark m.CloseContract line' ∷ rest) = simp append_assoc in
+    let regrouped : (g.mark m.OpenAnnotation line ∷ (inside ++ g.mark m.CloseAnnotation line' ∷ [])) ++ rest ≡ g.mark m.OpenAnnotation line ∷ (inside ++ g.mark m.CloseAnnotation line' ∷ rest) = simp append_assoc in
     ap (λ all. r.contract_at (all ++ rest)) eq ∙ ap r.contract_at regrouped
-    ∙ clauses_complete s line' rest (length (inside ++ g.mark m.CloseContract line' ∷ rest)) (omega (arith, length-append inside (g.mark m.CloseContract line' ∷ rest)))
+    ∙ clauses_complete s line' rest (length (inside ++ g.mark m.CloseAnnotation line' ∷ rest)) (omega (arith, length-append inside (g.mark m.CloseAnnotation line' ∷ rest)))
 
 -- ---- functions
 
@@ -154,44 +201,11 @@ params_complete : {xs : List Token} {ns : List (List ℕ)} → g.SpellsParams xs
 params_complete g.void rest h = refl
 params_complete (g.names s) rest h = rw (no_void s rest) (names_complete s rest h)
 
-header_complete : {xs : List Token} {x : List ℕ} {ns : List (List ℕ)} → g.SpellsHeader xs x ns → (rest : List Token) → r.header (xs ++ rest) ≡ Some ((x, ns), rest)
+pub header_complete : {xs : List Token} {x : List ℕ} {ns : List (List ℕ)} → g.SpellsHeader xs x ns → (rest : List Token) → r.header (xs ++ rest) ≡ Some ((x, ns), rest)
 header_complete (g.header line line' line'' line''' {x} {xs = ns} {inside} {all} s eq) rest =
     let front = g.mark m.Int line ∷ g.name x line' ∷ g.mark m.OpenParen line'' ∷ [] in
     let regrouped : (front ++ (inside ++ g.mark m.CloseParen line''' ∷ [])) ++ rest ≡ front ++ (inside ++ g.mark m.CloseParen line''' ∷ rest) = simp append_assoc in
     ap (λ all. r.header (all ++ rest)) eq ∙ ap r.header regrouped ∙ rw (params_complete s (g.mark m.CloseParen line''' ∷ rest) refl) refl
 
-body_complete : {xs : List Token} {e : t.Expr} → g.SpellsBody xs e → (rest : List Token) → r.body (xs ++ rest) ≡ Some (e, rest)
-body_complete (g.body line line' line'' line''' {e} {inside} {all} s eq) rest =
-    let front = g.mark m.OpenBrace line ∷ g.mark m.Return line' ∷ [] in
-    let end = g.mark m.Semicolon line'' ∷ g.mark m.CloseBrace line''' ∷ [] in
-    let regrouped : (front ++ (inside ++ end)) ++ rest ≡ front ++ (inside ++ (end ++ rest)) = simp append_assoc in
-    ap (λ all. r.body (all ++ rest)) eq ∙ ap r.body regrouped ∙ rw (sum_complete s (end ++ rest) refl) refl
-
-header_first : {xs : List Token} {x : List ℕ} {ns : List (List ℕ)} → g.SpellsHeader xs x ns → (rest : List Token) → (r.expect m.OpenContract (xs ++ rest) ≡ None) × (1 ≤ length xs)
-header_first (g.header line line' line'' line''' {x} {xs = ns} {inside} {all} s eq) rest = (ap (λ all. r.expect m.OpenContract (all ++ rest)) eq, omega (arith, ap length eq))
-
-function_complete : {xs : List Token} {f : t.Function} → g.SpellsFunction xs f → (rest : List Token) → (r.function (xs ++ rest) ≡ Some (f, rest)) × (1 ≤ length xs)
-function_complete (g.function {first = first} {second = second} {third = third} s s' s'' eq) rest =
-    let regrouped : (first ++ (second ++ third)) ++ rest ≡ first ++ (second ++ (third ++ rest)) = simp append_assoc in
-    let head = header_first s' (third ++ rest) in
-    let read = contract_complete s (second ++ (third ++ rest)) head.0 in (
-      ap (λ all. r.function (all ++ rest)) eq ∙ ap r.function regrouped ∙ rw (read, header_complete s' (third ++ rest), body_complete s'' rest) refl,
-      omega (arith, head.1, ap length eq, length-append first (second ++ third), length-append second third),
-    )
-
-file_none : (turns : ℕ) → r.file turns [] ≡ Some []
-unfolding r.file
-file_none zero = refl
-file_none (suc turns) = refl
-
-pub file_complete : {ts : List Token} {fs : t.Program} → g.SpellsFile ts fs → (turns : ℕ) → length ts ≤ turns → r.file turns ts ≡ Some fs
-file_complete g.none turns le = file_none turns
-file_complete (g.more {first} {rest} {all} s others eq) zero le =
-    let read = function_complete s rest in
-    absurd (omega (arith, read.1, ap length eq, length-append first rest))
-file_complete (g.more {first} {rest} {all} {f} {fs} s others eq) (suc turns) le =
-    let read = function_complete s rest in
-    let total = ap length eq in
-    let parts = length-append first rest in
-    ap (r.file (suc turns)) eq ∙ file_goes (suc turns) turns (first ++ rest) (omega arith) (omega (arith, read.1, parts))
-    ∙ rw (read.0, file_complete others turns (omega (arith, read.1, total, parts))) refl
+pub header_first : {xs : List Token} {x : List ℕ} {ns : List (List ℕ)} → g.SpellsHeader xs x ns → (rest : List Token) → (r.expect m.OpenAnnotation (xs ++ rest) ≡ None) × (1 ≤ length xs)
+header_first (g.header line line' line'' line''' {x} {xs = ns} {inside} {all} s eq) rest = (ap (λ all. r.expect m.OpenAnnotation (all ++ rest)) eq, omega (arith, ap length eq))

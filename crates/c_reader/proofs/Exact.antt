@@ -13,8 +13,9 @@ use Rattle.c_reader.specs.Program.{Spells}
 use Rattle.c_reader.specs.Reader as r
 use Rattle.c_reader.specs.Reader.{◌>>=◌}
 use Rattle.c_reader.specs.Views.{GivesAll}
-use Rattle.c_reader.proofs.Sound.{then_some, if_some, file_sound}
-use Rattle.c_reader.proofs.Complete.{file_complete}
+use Rattle.c_reader.proofs.Sound.{then_some, if_some}
+use Rattle.c_reader.proofs.SoundStmts.{file_sound}
+use Rattle.c_reader.proofs.CompleteStmts.{file_complete}
 
 pub spelled_by : (text : List ℕ) (p : t.Program) → r.program text ≡ Some p → Spells text p
 spelled_by text p h =

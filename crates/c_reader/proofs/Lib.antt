@@ -2,7 +2,10 @@ pub mod Numbers
 pub mod Longest
 pub mod Lexing
 pub mod Reading
+pub mod Blocks
 pub mod Naming
 pub mod Sound
+pub mod SoundStmts
 pub mod Complete
+pub mod CompleteStmts
 pub mod Exact

@@ -1,10 +1,10 @@
 -- One turn of each loop, on lists.
-use Rattle.std.proofs.Common.{◌≡◌, ℕ, zero, suc, ◌+◌, ◌≤◌, ◌<◌, Bool, List, [], ◌∷◌, ◌++◌, length, Option, Some, None, Err, refl, sym, ap, ◌∙◌, add-one, arith, append_assoc, append-nil, eqb, true, false}
+use Rattle.std.proofs.Common.{◌≡◌, ℕ, zero, suc, ◌+◌, ◌-◌, ◌≤◌, ◌<◌, Bool, List, [], ◌∷◌, ◌++◌, length, Option, Some, None, Err, refl, sym, ap, ◌∙◌, add-one, arith, append_assoc, append-nil, eqb, true, false}
 use Rattle.std.proofs.lemmas.Bool.Decides.{nat_tests}
 use Rattle.core_prog.specs.declared.tree.SumOp.{SumOp}
 use Rattle.core_prog.specs.Tree as t
 use Rattle.core_prog.specs.View.{view_expr, view_pred}
-use Rattle.core_prog.proofs.Equations.{view_expr-Sum, view_pred-And, view_laws}
+use Rattle.core_prog.proofs.Equations.{view_laws, stmt_laws}
 use Rattle.c_reader.specs.declared.fault.Fault.{Fault}
 use Rattle.c_reader.specs.declared.fault.Fault.TheVariants.{Syntax, NoMemory}
 use Rattle.c_reader.specs.declared.token.Token.{Token}
@@ -12,10 +12,12 @@ use Rattle.c_reader.specs.declared.token.Mark.TheVariants as m
 use Rattle.c_reader.specs.declared.contracts.Keyword.{Keyword}
 use Rattle.c_reader.specs.declared.contracts.Keyword.TheVariants as keyword
 use Rattle.c_reader.specs.Views.{Gives, GivesAll, after_clauses, with_clauses, with_items, with_functions}
-use Rattle.c_reader.specs.Reader.{◌>>=◌, expect, atom, operator, chain, compared, conjunction, clause, Clauses, before_clauses, clauses, param, more_params, function, file}
+use Rattle.c_reader.specs.Reader.{Reader, ◌>>=◌, nothing, expect, atom, inner, operator, chain, sum, sum_of, expr, expr_of, compared, conjunction, clause, Clauses, before_clauses, clauses, param, more_params, function, file}
 
 -- the plain trees of the code's trees
 pub ruleset views = (view_laws)
+
+pub ruleset stmt_views = (stmt_laws)
 
 -- a fault of a part is that of the whole
 pub gives_fault : {X Y Z W : Type 0} (see : X → Y) (see' : Z → W) (read : Option (Y × List Token)) (f : Y × List Token → Option (W × List Token)) (e : Fault)
@@ -23,33 +25,49 @@ pub gives_fault : {X Y Z W : Type 0} (see : X → Y) (see' : Z → W) (read : Op
 gives_fault see see' read f Syntax h = rw h refl
 gives_fault see see' read f NoMemory h = tt
 
--- ---- sums
+-- ---- expressions
 
-pub chain_ends : (annotated : Bool) (turns : ℕ) (a : t.Expr) (ts : List Token) → turns ≡ 0 → chain annotated turns a ts ≡ Some (a, ts)
+-- readers that read alike are equal
+alike : {X : Type 0} (p q : Reader X) → ((ts : List Token) → p ts ≡ q ts) → p ≡ q
+alike p q h = λ i ts. h ts i
+
+pub inner_is : (annotated : Bool) (room : ℕ) (ts : List Token) → inner annotated (suc room) ts ≡ expr annotated room ts
+inner_is annotated room ts =
+    let some : eqb (suc room) 0 ≡ false = grind (arith, nat_tests) in
+    let less : suc room - 1 ≡ room = omega arith in
+    rw (some, less) refl
+
+pub expr_is : (annotated : Bool) (room : ℕ) (ts : List Token) → expr annotated room ts ≡ expr_of annotated (sum annotated room) ts
+unfolding expr
+expr_is annotated zero ts = ap (λ (p : Reader t.Expr). expr_of annotated (sum_of (atom annotated p)) ts) (alike nothing (inner annotated 0) (λ ts. refl))
+expr_is annotated (suc room) ts =
+    ap (λ (p : Reader t.Expr). expr_of annotated (sum_of (atom annotated p)) ts) (alike (expr annotated room) (inner annotated (suc room)) (λ ts. sym (inner_is annotated room ts)))
+
+pub chain_ends : (operand : Reader t.Expr) (turns : ℕ) (a : t.Expr) (ts : List Token) → turns ≡ 0 → chain operand turns a ts ≡ Some (a, ts)
 unfolding chain
-chain_ends annotated turns a ts e = rw e refl
+chain_ends operand turns a ts e = rw e refl
 
-pub chain_stops : (annotated : Bool) (turns : ℕ) (a : t.Expr) (ts : List Token) → operator ts ≡ None → chain annotated turns a ts ≡ Some (a, ts)
+pub chain_stops : (operand : Reader t.Expr) (turns : ℕ) (a : t.Expr) (ts : List Token) → operator ts ≡ None → chain operand turns a ts ≡ Some (a, ts)
 unfolding chain
-chain_stops annotated zero a ts e = refl
-chain_stops annotated (suc turns) a ts e = rw e refl
+chain_stops operand zero a ts e = refl
+chain_stops operand (suc turns) a ts e = rw e refl
 
-chain_goes : (annotated : Bool) (turns turns' : ℕ) (a : t.Expr) (ts : List Token) (op : SumOp) (line : ℕ) (after : List Token) → turns ≡ turns' + 1 → operator ts ≡ Some ((op, line), after)
-    → chain annotated turns a ts ≡ (atom annotated after >>= λ b. chain annotated turns' (t.sum op line a b.0) b.1)
+chain_goes : (operand : Reader t.Expr) (turns turns' : ℕ) (a : t.Expr) (ts : List Token) (op : SumOp) (line : ℕ) (after : List Token) → turns ≡ turns' + 1 → operator ts ≡ Some ((op, line), after)
+    → chain operand turns a ts ≡ (operand after >>= λ b. chain operand turns' (t.sum op line a b.0) b.1)
 unfolding chain
-chain_goes annotated turns turns' a ts op line after e found = rw (e, add-one, found) refl
+chain_goes operand turns turns' a ts op line after e found = rw (e, add-one, found) refl
 
-pub chain_turn : (annotated : Bool) (turns turns' : ℕ) (a b joined : t.Expr) (ts : List Token) (op : SumOp) (line : ℕ) (after rest : List Token) → turns ≡ turns' + 1 → operator ts ≡ Some ((op, line), after)
-    → atom annotated after ≡ Some (b, rest) → joined ≡ t.sum op line a b → chain annotated turns' joined rest ≡ chain annotated turns a ts
-chain_turn annotated turns turns' a b joined ts op line after rest one found read made =
-    ap (λ sum. chain annotated turns' sum rest) made
-    ∙ sym (chain_goes annotated turns turns' a ts op line after one found ∙ ap (λ x. x >>= λ b. chain annotated turns' (t.sum op line a b.0) b.1) read)
+pub chain_turn : (operand : Reader t.Expr) (turns turns' : ℕ) (a b joined : t.Expr) (ts : List Token) (op : SumOp) (line : ℕ) (after rest : List Token) → turns ≡ turns' + 1 → operator ts ≡ Some ((op, line), after)
+    → operand after ≡ Some (b, rest) → joined ≡ t.sum op line a b → chain operand turns' joined rest ≡ chain operand turns a ts
+chain_turn operand turns turns' a b joined ts op line after rest one found read made =
+    ap (λ sum. chain operand turns' sum rest) made
+    ∙ sym (chain_goes operand turns turns' a ts op line after one found ∙ ap (λ x. x >>= λ b. chain operand turns' (t.sum op line a b.0) b.1) read)
 
--- where the operand is no atom
-pub chain_fault : (annotated : Bool) (turns turns' : ℕ) (a : t.Expr) (ts : List Token) (op : SumOp) (line : ℕ) (after : List Token) (e : Fault) → turns ≡ turns' + 1 → operator ts ≡ Some ((op, line), after)
-    → Gives view_expr (Err e) (atom annotated after) → Gives view_expr (Err e) (chain annotated turns a ts)
-chain_fault annotated turns turns' a ts op line after e eq found h =
-    rw (chain_goes annotated turns turns' a ts op line after eq found) (gives_fault view_expr view_expr (atom annotated after) _ e h)
+-- where what comes next is no operand
+pub chain_fault : (operand : Reader t.Expr) (turns turns' : ℕ) (a : t.Expr) (ts : List Token) (op : SumOp) (line : ℕ) (after : List Token) (e : Fault) → turns ≡ turns' + 1 → operator ts ≡ Some ((op, line), after)
+    → Gives view_expr (Err e) (operand after) → Gives view_expr (Err e) (chain operand turns a ts)
+chain_fault operand turns turns' a ts op line after e eq found h =
+    rw (chain_goes operand turns turns' a ts op line after eq found) (gives_fault view_expr view_expr (operand after) _ e h)
 
 -- ---- conjunctions
 
@@ -84,12 +102,12 @@ pub clauses_out : (turns : ℕ) (ts : List Token) → turns ≡ 0 → clauses tu
 unfolding clauses
 clauses_out turns ts e = rw e refl
 
-pub clauses_end : (turns : ℕ) (cs : Clauses) (ts rest : List Token) → 1 ≤ turns → expect m.CloseContract ts ≡ Some rest → with_clauses cs (clauses turns ts) ≡ Some (cs, rest)
+pub clauses_end : (turns : ℕ) (cs : Clauses) (ts rest : List Token) → 1 ≤ turns → expect m.CloseAnnotation ts ≡ Some rest → with_clauses cs (clauses turns ts) ≡ Some (cs, rest)
 unfolding clauses
 clauses_end zero cs ts rest le e = absurd (omega arith)
 clauses_end (suc turns) cs ts rest le e = rw (e, append-nil cs.0, append-nil cs.1) refl
 
-clauses_go : (turns turns' : ℕ) (ts : List Token) → turns ≡ turns' + 1 → expect m.CloseContract ts ≡ None
+clauses_go : (turns turns' : ℕ) (ts : List Token) → turns ≡ turns' + 1 → expect m.CloseAnnotation ts ≡ None
     → clauses turns ts ≡ (clause ts >>= λ c. clauses turns' c.1 >>= λ cs. Some (before_clauses c.0.0 c.0.1 cs.0, cs.1))
 unfolding clauses
 clauses_go turns turns' ts e none = rw (e, add-one, none) refl
@@ -100,13 +118,13 @@ with_clauses-after w c cs None = refl
 with_clauses-after keyword.Requires c cs (Some x) = ap (λ (rs : List t.Clause). Some ((rs, cs.1 ++ x.0.1), x.1)) (append_assoc cs.0 (c ∷ []) x.0.0)
 with_clauses-after keyword.Ensures c cs (Some x) = ap (λ (es : List t.Clause). Some ((cs.0 ++ x.0.0, es), x.1)) (append_assoc cs.1 (c ∷ []) x.0.1)
 
-pub clauses_turn : (turns turns' : ℕ) (cs : Clauses) (w : Keyword) (c : t.Clause) (ts rest : List Token) → turns ≡ turns' + 1 → expect m.CloseContract ts ≡ None
+pub clauses_turn : (turns turns' : ℕ) (cs : Clauses) (w : Keyword) (c : t.Clause) (ts rest : List Token) → turns ≡ turns' + 1 → expect m.CloseAnnotation ts ≡ None
     → clause ts ≡ Some ((w, c), rest) → with_clauses (after_clauses w c cs) (clauses turns' rest) ≡ with_clauses cs (clauses turns ts)
 clauses_turn turns turns' cs w c ts rest e none read =
     with_clauses-after w c cs (clauses turns' rest)
     ∙ sym (ap (with_clauses cs) (clauses_go turns turns' ts e none ∙ ap (λ x. x >>= λ c. clauses turns' c.1 >>= λ cs. Some (before_clauses c.0.0 c.0.1 cs.0, cs.1)) read))
 
-pub clauses_fault : {X Z : Type 0} (see : X → Keyword × t.Clause) (see' : Z → Clauses) (turns turns' : ℕ) (cs : Clauses) (ts : List Token) (e : Fault) → turns ≡ turns' + 1 → expect m.CloseContract ts ≡ None
+pub clauses_fault : {X Z : Type 0} (see : X → Keyword × t.Clause) (see' : Z → Clauses) (turns turns' : ℕ) (cs : Clauses) (ts : List Token) (e : Fault) → turns ≡ turns' + 1 → expect m.CloseAnnotation ts ≡ None
     → Gives see (Err e) (clause ts) → Gives see' (Err e) (with_clauses cs (clauses turns ts))
 clauses_fault see see' turns turns' cs ts Syntax eq none h = rw (clauses_go turns turns' ts eq none, h) refl
 clauses_fault see see' turns turns' cs ts NoMemory eq none h = tt

@@ -20,6 +20,7 @@ use Rattle.c_reader.specs.declared.contracts.Keyword.TheVariants as keyword
 use Rattle.c_reader.specs.Grammar as g
 use Rattle.c_reader.specs.Reader as r
 use Rattle.c_reader.specs.Reader.{Reader, ◌>>=◌}
+use Rattle.c_reader.proofs.Reading.{inner_is}
 
 pub then_some : {X Y : Type 0} (o : Option X) (f : X → Option Y) (y : Y) → (o >>= f) ≡ Some y → (x : X) × (o ≡ Some x) × (f x ≡ Some y)
 then_some None f y h = absurd cc
@@ -32,7 +33,7 @@ if_some false x y h = absurd cc
 abbrev both : {X Y : Type 0} → X → Y → Option (X × Y)
 both x y = Some (x, y)
 
-parts : {X Y : Type 0} (x x' : X) (y y' : Y) → both x y ≡ both x' y' → (x ≡ x') × (y ≡ y')
+pub parts : {X Y : Type 0} (x x' : X) (y y' : Y) → both x y ≡ both x' y' → (x ≡ x') × (y ≡ y')
 parts {X} {Y} x x' y y' h =
     let pair : X × Y = (x, y) in
     let pair' : X × Y = (x', y') in
@@ -40,10 +41,10 @@ parts {X} {Y} x x' y y' h =
     (ap (λ (p : X × Y). p.0) alike, ap (λ (p : X × Y). p.1) alike)
 
 -- some tokens at the front spell it, and these come after them
-abbrev Took : {X : Type 0} → (List Token → X → Type 0) → List Token → X → List Token → Type 0
+abbrev pub Took : {X : Type 0} → (List Token → X → Type 0) → List Token → X → List Token → Type 0
 Took Rel ts x rest = (xs : List Token) × (ts ≡ xs ++ rest) × Rel xs x
 
-abbrev Sound : {X : Type 0} → (List Token → X → Type 0) → Reader X → Type 0
+abbrev pub Sound : {X : Type 0} → (List Token → X → Type 0) → Reader X → Type 0
 Sound {X} Rel read = (ts : List Token) (x : X) (rest : List Token) → read ts ≡ Some (x, rest) → Took Rel ts x rest
 
 -- ---- one token
@@ -54,7 +55,7 @@ expect_by_is mark (k.Mark found) ts rest h =
     (ap k.Mark (same_true the_type tt found mark x.0), x.1)
 expect_by_is mark _ ts rest h = absurd cc
 
-expect_is : (mark : Mark) (ts rest : List Token) → r.expect mark ts ≡ Some rest → (line : ℕ) × (ts ≡ g.mark mark line ∷ rest)
+pub expect_is : (mark : Mark) (ts rest : List Token) → r.expect mark ts ≡ Some rest → (line : ℕ) × (ts ≡ g.mark mark line ∷ rest)
 expect_is mark [] rest h = absurd cc
 expect_is mark (t ∷ ts) rest h =
     let x = expect_by_is mark t.kind ts rest h in
@@ -64,35 +65,71 @@ name_by_is : (kind : Kind) (ts : List Token) (x : List ℕ) (rest : List Token) 
 name_by_is (k.Name y) ts x rest h = let same = parts y x ts rest h in (ap k.Name same.0, same.1)
 name_by_is _ ts x rest h = absurd cc
 
-name_is : (ts : List Token) (x : List ℕ) (rest : List Token) → r.name ts ≡ Some (x, rest) → (line : ℕ) × (ts ≡ g.name x line ∷ rest)
+pub name_is : (ts : List Token) (x : List ℕ) (rest : List Token) → r.name ts ≡ Some (x, rest) → (line : ℕ) × (ts ≡ g.name x line ∷ rest)
 name_is [] x rest h = absurd cc
 name_is (t ∷ ts) x rest h =
     let y = name_by_is t.kind ts x rest h in
     (t.line, ap (λ kind. record { kind = kind; line = t.line } ∷ ts) y.0 ∙ ap (λ ts. g.name x t.line ∷ ts) y.1)
 
--- ---- sums
+-- ---- expressions
 
-result_sound : (annotated : Bool) (line : ℕ) (ts : List Token) (e : t.Expr) (rest : List Token) → cond annotated (both (t.name result_name) ts) None ≡ Some (e, rest)
-    → Took (g.SpellsAtom annotated) (g.mark m.Result line ∷ ts) e rest
-result_sound true line ts e rest h =
-    let same = parts (t.name result_name) e ts rest h in
-    (g.mark m.Result line ∷ [], ap (λ l. g.mark m.Result line ∷ l) same.1, subst (g.SpellsAtom true _) same.0 g.result)
-result_sound false line ts e rest h = absurd cc
+result_sound : (annotated : Bool) (room line : ℕ) (ts : List Token) (e : t.Expr) (rest : List Token) → cond annotated (both (t.name result_name line) ts) None ≡ Some (e, rest)
+    → Took (g.SpellsAtom annotated room) (g.mark m.Result line ∷ ts) e rest
+result_sound true room line ts e rest h =
+    let same = parts (t.name result_name line) e ts rest h in
+    (g.mark m.Result line ∷ [], ap (λ l. g.mark m.Result line ∷ l) same.1, subst (g.SpellsAtom true room _) same.0 g.result)
+result_sound false room line ts e rest h = absurd cc
 
-atom_by_sound : (annotated : Bool) (line : ℕ) (kind : Kind) (ts : List Token) (e : t.Expr) (rest : List Token) → r.atom_by annotated kind ts ≡ Some (e, rest)
-    → Took (g.SpellsAtom annotated) (record { kind = kind; line = line } ∷ ts) e rest
-atom_by_sound annotated line (k.Name x) ts e rest h =
-    let same = parts (t.name x) e ts rest h in
-    (g.name x line ∷ [], ap (λ l. g.name x line ∷ l) same.1, subst (g.SpellsAtom annotated _) same.0 g.named)
-atom_by_sound annotated line (k.Number n) ts e rest h =
+-- what stands in parentheses, of which one more may be open
+abbrev pub InnerSound : (annotated : Bool) (room : ℕ) → Reader t.Expr → Type 0
+InnerSound annotated room read =
+    (ts : List Token) (e : t.Expr) (rest : List Token) → read ts ≡ Some (e, rest) → (less : ℕ) × (room ≡ suc less) × Took (g.SpellsExpr annotated less) ts e rest
+
+pub record Enclosed (annotated : Bool) (room : ℕ) (ts : List Token) (e : t.Expr) (rest : List Token) : Type 0 where
+  pub less : ℕ
+  pub one : room ≡ suc less
+  pub inside : List Token
+  pub line : ℕ
+  pub spelled : g.SpellsExpr annotated less inside e
+  pub all : ts ≡ (inside ++ g.mark m.CloseParen line ∷ []) ++ rest
+
+pub enclosed_is : (annotated : Bool) (room : ℕ) (inner : Reader t.Expr) → InnerSound annotated room inner → (ts : List Token) (e : t.Expr) (rest : List Token) → r.enclosed inner ts ≡ Some (e, rest) → Enclosed annotated room ts e rest
+enclosed_is annotated room inner sound ts e rest h =
+    let x = then_some (inner ts) _ (e, rest) h in
+    let after = then_some (r.expect m.CloseParen x.0.1) _ (e, rest) x.2 in
+    let same = parts x.0.0 e after.0 rest after.2 in
+    let took = sound ts x.0.0 x.0.1 x.1 in
+    let end = expect_is m.CloseParen x.0.1 after.0 after.1 in
+    record {
+      less = took.0;
+      one = took.1;
+      inside = took.2.0;
+      line = end.0;
+      spelled = subst (g.SpellsExpr annotated took.0 took.2.0) same.0 took.2.2;
+      all = took.2.1 ∙ ap (λ l. took.2.0 ++ l) (end.1 ∙ ap (λ l. g.mark m.CloseParen end.0 ∷ l) same.1) ∙ sym (append_assoc took.2.0 (g.mark m.CloseParen end.0 ∷ []) rest);
+    }
+
+parentheses_sound : (annotated : Bool) (room line : ℕ) (ts : List Token) (e : t.Expr) (rest : List Token) → Enclosed annotated room ts e rest → Took (g.SpellsAtom annotated room) (g.mark m.OpenParen line ∷ ts) e rest
+parentheses_sound annotated room line ts e rest x =
+    let tok = g.mark m.OpenParen line in
+    let xs = tok ∷ (x.inside ++ g.mark m.CloseParen x.line ∷ []) in
+    (xs, ap (λ l. tok ∷ l) x.all, subst (λ room. g.SpellsAtom annotated room xs e) (sym x.one) (g.parentheses line x.line x.spelled refl))
+
+atom_by_sound : (annotated : Bool) (room : ℕ) (inner : Reader t.Expr) → InnerSound annotated room inner → (line : ℕ) (kind : Kind) (ts : List Token) (e : t.Expr) (rest : List Token) → r.atom_by annotated inner line kind ts ≡ Some (e, rest)
+    → Took (g.SpellsAtom annotated room) (record { kind = kind; line = line } ∷ ts) e rest
+atom_by_sound annotated room inner sound line (k.Name x) ts e rest h =
+    let same = parts (t.name x line) e ts rest h in
+    (g.name x line ∷ [], ap (λ l. g.name x line ∷ l) same.1, subst (g.SpellsAtom annotated room _) same.0 g.named)
+atom_by_sound annotated room inner sound line (k.Number n) ts e rest h =
     let same = parts (t.number (pos n)) e ts rest h in
-    (g.number n line ∷ [], ap (λ l. g.number n line ∷ l) same.1, subst (g.SpellsAtom annotated _) same.0 g.numbered)
-atom_by_sound annotated line (k.Mark m.Result) ts e rest h = result_sound annotated line ts e rest h
-atom_by_sound annotated line (k.Mark _) ts e rest h = absurd cc
+    (g.number n line ∷ [], ap (λ l. g.number n line ∷ l) same.1, subst (g.SpellsAtom annotated room _) same.0 g.numbered)
+atom_by_sound annotated room inner sound line (k.Mark m.Result) ts e rest h = result_sound annotated room line ts e rest h
+atom_by_sound annotated room inner sound line (k.Mark m.OpenParen) ts e rest h = parentheses_sound annotated room line ts e rest (enclosed_is annotated room inner sound ts e rest h)
+atom_by_sound annotated room inner sound line (k.Mark _) ts e rest h = absurd cc
 
-atom_sound : (annotated : Bool) → Sound (g.SpellsAtom annotated) (r.atom annotated)
-atom_sound annotated [] e rest h = absurd cc
-atom_sound annotated (t ∷ ts) e rest h = atom_by_sound annotated t.line t.kind ts e rest h
+atom_sound : (annotated : Bool) (room : ℕ) (inner : Reader t.Expr) → InnerSound annotated room inner → Sound (g.SpellsAtom annotated room) (r.atom annotated inner)
+atom_sound annotated room inner sound [] e rest h = absurd cc
+atom_sound annotated room inner sound (t ∷ ts) e rest h = atom_by_sound annotated room inner sound t.line t.kind ts e rest h
 
 operator_by_is : (line : ℕ) (kind : Kind) (ts : List Token) (x : (SumOp × ℕ) × List Token) → r.operator_by line kind ts ≡ Some x → record { kind = kind; line = line } ∷ ts ≡ g.mark (g.sum_mark x.0.0) x.0.1 ∷ x.1
 operator_by_is line (k.Mark m.Plus) ts x h =
@@ -135,37 +172,42 @@ goes_further Rel Part read go sound go_sound join tok before ts after grow start
       subst (λ l. Rel l x) (append_assoc before (tok ∷ right.0) more.0) more.2,
     )
 
-chain_sound : (annotated : Bool) (turns : ℕ) → GoSound (g.SpellsSum annotated) (r.chain annotated turns)
+-- what was read first, and what goes on with it
+goes_after : {X Y : Type 0} (First : List Token → X → Type 0) (Rel : List Token → Y → Type 0) (read : Reader X) (go : X → Reader Y) → Sound First read
+    → ((a : X) (before ts : List Token) → First before a → (y : Y) (rest : List Token) → go a ts ≡ Some (y, rest) → GoesOn Rel before ts y rest) → Sound Rel (λ ts. read ts >>= λ a. go a.0 a.1)
+goes_after First Rel read go sound go_sound ts y rest h =
+    let a = then_some (read ts) (λ a. go a.0 a.1) (y, rest) h in
+    let first = sound ts a.0.0 a.0.1 a.1 in
+    let more = go_sound a.0.0 first.0 a.0.1 first.2 y rest a.2 in
+    (first.0 ++ more.0, first.1 ∙ ap (λ l. first.0 ++ l) more.1 ∙ sym (append_assoc first.0 more.0 rest), more.2)
+
+chain_sound : (annotated : Bool) (room : ℕ) (operand : Reader t.Expr) → Sound (g.SpellsAtom annotated room) operand → (turns : ℕ) → GoSound (g.SpellsSum annotated room) (r.chain operand turns)
 unfolding r.chain
-chain_sound annotated zero a before ts s e rest h = goes_nowhere (g.SpellsSum annotated) a before ts s e rest h
-chain_sound annotated (suc turns) a before ts s e rest h =
-    elim (r.operator ts) as (λ o. r.operator ts ≡ o → r.linked o annotated a ts (r.chain annotated turns) ≡ Some (e, rest) → GoesOn (g.SpellsSum annotated) before ts e rest) [
-      | None ↦ (λ none h. goes_nowhere (g.SpellsSum annotated) a before ts s e rest h)
+chain_sound annotated room operand sound zero a before ts s e rest h = goes_nowhere (g.SpellsSum annotated room) a before ts s e rest h
+chain_sound annotated room operand sound (suc turns) a before ts s e rest h =
+    elim (r.operator ts) as (λ o. r.operator ts ≡ o → r.linked o operand a ts (r.chain operand turns) ≡ Some (e, rest) → GoesOn (g.SpellsSum annotated room) before ts e rest) [
+      | None ↦ (λ none h. goes_nowhere (g.SpellsSum annotated room) a before ts s e rest h)
       | Some x ↦ (λ some h.
-          goes_further (g.SpellsSum annotated) (g.SpellsAtom annotated) (r.atom annotated) (r.chain annotated turns) (atom_sound annotated) (chain_sound annotated turns)
+          goes_further (g.SpellsSum annotated room) (g.SpellsAtom annotated room) operand (r.chain operand turns) sound (chain_sound annotated room operand sound turns)
           (λ b. t.sum x.0.0 x.0.1 a b) (g.mark (g.sum_mark x.0.0) x.0.1) before ts x.1 (λ right b part. g.sum s part refl) (operator_is ts x some) e rest h)
     ]
     refl h
 
-sum_sound : (annotated : Bool) → Sound (g.SpellsSum annotated) (r.sum annotated)
-sum_sound annotated ts e rest h =
-    let a = then_some (r.atom annotated ts) (λ a. r.chain annotated (length a.1) a.0 a.1) (e, rest) h in
-    let first = atom_sound annotated ts a.0.0 a.0.1 a.1 in
-    let more = chain_sound annotated (length a.0.1) a.0.0 first.0 a.0.1 (g.atom first.2) e rest a.2 in
-    (first.0 ++ more.0, first.1 ∙ ap (λ l. first.0 ++ l) more.1 ∙ sym (append_assoc first.0 more.0 rest), more.2)
+sum_of_sound : (annotated : Bool) (room : ℕ) (operand : Reader t.Expr) → Sound (g.SpellsAtom annotated room) operand → Sound (g.SpellsSum annotated room) (r.sum_of operand)
+sum_of_sound annotated room operand sound =
+    goes_after (g.SpellsAtom annotated room) (g.SpellsSum annotated room) operand (λ a ts. r.chain operand (length ts) a ts) sound
+    (λ a before ts s e rest h. chain_sound annotated room operand sound (length ts) a before ts (g.atom s) e rest h)
 
--- ---- predicates
+abbrev IsComparison : (line : ℕ) (kind : Kind) (ts : List Token) → (Comparison × ℕ) × List Token → Type 0
+IsComparison line kind ts x = record { kind = kind; line = line } ∷ ts ≡ g.mark (g.comparison_mark x.0.0) x.0.1 ∷ x.1
 
-abbrev IsComparison : (line : ℕ) (kind : Kind) (ts : List Token) → Comparison × List Token → Type 0
-IsComparison line kind ts x = record { kind = kind; line = line } ∷ ts ≡ g.mark (g.comparison_mark x.0) line ∷ x.1
-
-comparison_found : (line : ℕ) (test : Comparison) (ts : List Token) (x : Comparison × List Token) → both test ts ≡ Some x → IsComparison line (k.Mark (g.comparison_mark test)) ts x
-comparison_found line test ts x h =
-    let found : Comparison × List Token = (test, ts) in
+comparison_found : (line : ℕ) (how : Comparison) (ts : List Token) (x : (Comparison × ℕ) × List Token) → both (how, line) ts ≡ Some x → IsComparison line (k.Mark (g.comparison_mark how)) ts x
+comparison_found line how ts x h =
+    let found : (Comparison × ℕ) × List Token = ((how, line), ts) in
     let same : found ≡ x = cc in
-    ap (λ (y : Comparison × List Token). g.mark (g.comparison_mark y.0) line ∷ y.1) same
+    ap (λ (y : (Comparison × ℕ) × List Token). g.mark (g.comparison_mark y.0.0) y.0.1 ∷ y.1) same
 
-comparison_by_is : (line : ℕ) (kind : Kind) (ts : List Token) (x : Comparison × List Token) → r.comparison_by kind ts ≡ Some x → IsComparison line kind ts x
+comparison_by_is : (line : ℕ) (kind : Kind) (ts : List Token) (x : (Comparison × ℕ) × List Token) → r.comparison_by line kind ts ≡ Some x → IsComparison line kind ts x
 comparison_by_is line (k.Mark m.Less) ts x h = comparison_found line c.Less ts x h
 comparison_by_is line (k.Mark m.AtMost) ts x h = comparison_found line c.AtMost ts x h
 comparison_by_is line (k.Mark m.Greater) ts x h = comparison_found line c.Greater ts x h
@@ -175,23 +217,65 @@ comparison_by_is line (k.Mark m.NotEqual) ts x h = comparison_found line c.NotEq
 comparison_by_is line (k.Mark _) ts x h = absurd cc
 comparison_by_is line _ ts x h = absurd cc
 
-comparison_is : (ts : List Token) (x : Comparison × List Token) → r.comparison ts ≡ Some x → (line : ℕ) × (ts ≡ g.mark (g.comparison_mark x.0) line ∷ x.1)
+comparison_is : (ts : List Token) (x : (Comparison × ℕ) × List Token) → r.comparison ts ≡ Some x → ts ≡ g.mark (g.comparison_mark x.0.0) x.0.1 ∷ x.1
 comparison_is [] x h = absurd cc
-comparison_is (t ∷ ts) x h = (t.line, comparison_by_is t.line t.kind ts x h)
+comparison_is (t ∷ ts) x h = comparison_by_is t.line t.kind ts x h
+
+tested_sound : (room : ℕ) (summed : Reader t.Expr) → Sound (g.SpellsSum false room) summed → (a : t.Expr) (before ts : List Token) → g.SpellsSum false room before a → (e : t.Expr) (rest : List Token)
+    → r.tested (r.comparison ts) summed a ts ≡ Some (e, rest) → GoesOn (g.SpellsExpr false room) before ts e rest
+tested_sound room summed sound a before ts s e rest h =
+    elim (r.comparison ts) as (λ o. r.comparison ts ≡ o → r.tested o summed a ts ≡ Some (e, rest) → GoesOn (g.SpellsExpr false room) before ts e rest) [
+      | None ↦ (λ none h. goes_nowhere (g.SpellsExpr false room) a before ts (g.alone s) e rest h)
+      | Some x ↦ (λ some h.
+          let b = then_some (summed x.1) _ (e, rest) h in
+          let right = sound x.1 b.0.0 b.0.1 b.1 in
+          let same = parts (t.test x.0.0 x.0.1 a b.0.0) e b.0.1 rest b.2 in
+          let tok = g.mark (g.comparison_mark x.0.0) x.0.1 in (
+            tok ∷ right.0,
+            comparison_is ts x some ∙ ap (λ l. tok ∷ l) (right.1 ∙ ap (λ l. right.0 ++ l) same.1),
+            subst (g.SpellsExpr false room (before ++ tok ∷ right.0)) same.0 (g.test s right.2 refl),
+          ))
+    ]
+    refl h
+
+expr_after_sound : (annotated : Bool) (room : ℕ) (summed : Reader t.Expr) → Sound (g.SpellsSum annotated room) summed → (a : t.Expr) (before ts : List Token) → g.SpellsSum annotated room before a → (e : t.Expr) (rest : List Token)
+    → r.expr_after annotated summed a ts ≡ Some (e, rest) → GoesOn (g.SpellsExpr annotated room) before ts e rest
+expr_after_sound true room summed sound a before ts s e rest h = goes_nowhere (g.SpellsExpr true room) a before ts (g.alone s) e rest h
+expr_after_sound false room summed sound a before ts s e rest h = tested_sound room summed sound a before ts s e rest h
+
+-- an expression, where what is in parentheses was read by a sound reader
+over_sound : (annotated : Bool) (room : ℕ) (inner : Reader t.Expr) → InnerSound annotated room inner → Sound (g.SpellsExpr annotated room) (r.expr_of annotated (r.sum_of (r.atom annotated inner)))
+over_sound annotated room inner sound =
+    let summed = sum_of_sound annotated room (r.atom annotated inner) (atom_sound annotated room inner sound) in
+    goes_after (g.SpellsSum annotated room) (g.SpellsExpr annotated room) (r.sum_of (r.atom annotated inner)) (r.expr_after annotated (r.sum_of (r.atom annotated inner))) summed
+    (expr_after_sound annotated room (r.sum_of (r.atom annotated inner)) summed)
+
+pub expr_sound : (annotated : Bool) (room : ℕ) → Sound (g.SpellsExpr annotated room) (r.expr annotated room)
+unfolding r.expr
+expr_sound annotated zero = over_sound annotated 0 r.nothing (λ ts e rest h. absurd cc)
+expr_sound annotated (suc room) = over_sound annotated (suc room) (r.expr annotated room) (λ ts e rest h. (room, refl, expr_sound annotated room ts e rest h))
+
+pub inner_sound : (annotated : Bool) (room : ℕ) → InnerSound annotated room (r.inner annotated room)
+inner_sound annotated zero ts e rest h = absurd cc
+inner_sound annotated (suc room) ts e rest h = (room, refl, expr_sound annotated room ts e rest (sym (inner_is annotated room ts) ∙ h))
+
+term_sound : Sound (g.SpellsSum true g.most_open) r.term
+term_sound = sum_of_sound true g.most_open (r.atom true (r.inner true g.most_open)) (atom_sound true g.most_open (r.inner true g.most_open) (inner_sound true g.most_open))
+
+-- ---- predicates
 
 compared_sound : Sound g.SpellsComparison r.compared
 compared_sound ts p rest h =
-    let a = then_some (r.sum true ts) _ (p, rest) h in
-    let test = then_some (r.comparison a.0.1) _ (p, rest) a.2 in
-    let b = then_some (r.sum true test.0.1) _ (p, rest) test.2 in
-    let same = parts (t.compare test.0.0 a.0.0 b.0.0) p b.0.1 rest b.2 in
-    let left = sum_sound true ts a.0.0 a.0.1 a.1 in
-    let tested = comparison_is a.0.1 test.0 test.1 in
-    let right = sum_sound true test.0.1 b.0.0 b.0.1 b.1 in
-    let tok = g.mark (g.comparison_mark test.0.0) tested.0 in (
+    let a = then_some (r.term ts) _ (p, rest) h in
+    let how = then_some (r.comparison a.0.1) _ (p, rest) a.2 in
+    let b = then_some (r.term how.0.1) _ (p, rest) how.2 in
+    let same = parts (t.compare how.0.0.0 a.0.0 b.0.0) p b.0.1 rest b.2 in
+    let left = term_sound ts a.0.0 a.0.1 a.1 in
+    let right = term_sound how.0.1 b.0.0 b.0.1 b.1 in
+    let tok = g.mark (g.comparison_mark how.0.0.0) how.0.0.1 in (
       left.0 ++ tok ∷ right.0,
-      left.1 ∙ ap (λ l. left.0 ++ l) (tested.1 ∙ ap (λ l. tok ∷ l) (right.1 ∙ ap (λ l. right.0 ++ l) same.1)) ∙ sym (append_assoc left.0 (tok ∷ right.0) rest),
-      subst (g.SpellsComparison _) same.0 (g.compare tested.0 left.2 right.2 refl),
+      left.1 ∙ ap (λ l. left.0 ++ l) (comparison_is a.0.1 how.0 how.1 ∙ ap (λ l. tok ∷ l) (right.1 ∙ ap (λ l. right.0 ++ l) same.1)) ∙ sym (append_assoc left.0 (tok ∷ right.0) rest),
+      subst (g.SpellsComparison _) same.0 (g.compare how.0.0.1 left.2 right.2 refl),
     )
 
 conjunction_sound : (turns : ℕ) → GoSound g.SpellsPred (r.conjunction turns)
@@ -207,7 +291,7 @@ conjunction_sound (suc turns) p before ts s q rest h =
     ]
     refl h
 
-pred_sound : Sound g.SpellsPred r.pred
+pub pred_sound : Sound g.SpellsPred r.pred
 pred_sound ts p rest h =
     let a = then_some (r.compared ts) (λ p. r.conjunction (length p.1) p.0 p.1) (p, rest) h in
     let first = compared_sound ts a.0.0 a.0.1 a.1 in
@@ -276,7 +360,7 @@ clause_is ts w c rest h =
 
 -- clauses at the front, and the end of the annotation
 abbrev ClausesAt : List Token → r.Clauses → List Token → Type 0
-ClausesAt ts cs rest = (xs : List Token) × (line : ℕ) × (ts ≡ xs ++ g.mark m.CloseContract line ∷ rest) × g.SpellsClauses xs cs.0 cs.1
+ClausesAt ts cs rest = (xs : List Token) × (line : ℕ) × (ts ≡ xs ++ g.mark m.CloseAnnotation line ∷ rest) × g.SpellsClauses xs cs.0 cs.1
 
 one_more : (ts : List Token) (w : Keyword) (c : t.Clause) (after : List Token) (cs : r.Clauses) (rest : List Token) → ClauseAt ts w c after → ClausesAt after cs rest → ClausesAt ts (r.before_clauses w c cs) rest
 one_more ts keyword.Requires c after cs rest one more =
@@ -290,11 +374,11 @@ clauses_sound : (turns : ℕ) (ts : List Token) (cs : r.Clauses) (rest : List To
 unfolding r.clauses
 clauses_sound zero ts cs rest h = absurd cc
 clauses_sound (suc turns) ts cs rest h =
-    elim (r.expect m.CloseContract ts) as (λ o. r.expect m.CloseContract ts ≡ o → r.clauses_until o ts (r.clauses turns) ≡ Some (cs, rest) → ClausesAt ts cs rest) [
+    elim (r.expect m.CloseAnnotation ts) as (λ o. r.expect m.CloseAnnotation ts ≡ o → r.clauses_until o ts (r.clauses turns) ≡ Some (cs, rest) → ClausesAt ts cs rest) [
       | Some after ↦ (λ some h.
-          let found = expect_is m.CloseContract ts after some in
+          let found = expect_is m.CloseAnnotation ts after some in
           let same = parts r.no_clauses cs after rest h in
-          subst (λ cs. ClausesAt ts cs rest) same.0 ([], found.0, found.1 ∙ ap (λ l. g.mark m.CloseContract found.0 ∷ l) same.1, g.none))
+          subst (λ cs. ClausesAt ts cs rest) same.0 ([], found.0, found.1 ∙ ap (λ l. g.mark m.CloseAnnotation found.0 ∷ l) same.1, g.none))
       | None ↦ (λ none h.
           let c = then_some (r.clause ts) _ (cs, rest) h in
           let more = then_some (r.clauses turns c.0.1) _ (cs, rest) c.2 in
@@ -309,14 +393,14 @@ clauses_sound (suc turns) ts cs rest h =
 abbrev ContractAt : List Token → r.Clauses → Type 0
 ContractAt xs cs = g.SpellsContract xs cs.0 cs.1
 
-contract_sound : Sound ContractAt r.contract_at
+pub contract_sound : Sound ContractAt r.contract_at
 contract_sound ts cs rest h =
-    elim (r.expect m.OpenContract ts) as (λ o. r.expect m.OpenContract ts ≡ o → r.contract_after o ts ≡ Some (cs, rest) → Took ContractAt ts cs rest) [
+    elim (r.expect m.OpenAnnotation ts) as (λ o. r.expect m.OpenAnnotation ts ≡ o → r.contract_after o ts ≡ Some (cs, rest) → Took ContractAt ts cs rest) [
       | Some after ↦ (λ some h.
-          let found = expect_is m.OpenContract ts after some in
+          let found = expect_is m.OpenAnnotation ts after some in
           let inside = clauses_sound (length after) after cs rest h in (
-            g.mark m.OpenContract found.0 ∷ (inside.0 ++ g.mark m.CloseContract inside.1 ∷ []),
-            found.1 ∙ ap (λ l. g.mark m.OpenContract found.0 ∷ l) (inside.2 ∙ sym (append_assoc inside.0 (g.mark m.CloseContract inside.1 ∷ []) rest)),
+            g.mark m.OpenAnnotation found.0 ∷ (inside.0 ++ g.mark m.CloseAnnotation inside.1 ∷ []),
+            found.1 ∙ ap (λ l. g.mark m.OpenAnnotation found.0 ∷ l) (inside.2 ∙ sym (append_assoc inside.0 (g.mark m.CloseAnnotation inside.1 ∷ []) rest)),
             g.contract found.0 inside.1 inside.3 refl,
           ))
       | None ↦ (λ none h.
@@ -390,7 +474,7 @@ params_sound ts xs rest h =
 abbrev HeaderAt : List Token → List ℕ × List (List ℕ) → Type 0
 HeaderAt xs h = g.SpellsHeader xs h.0 h.1
 
-header_sound : Sound HeaderAt r.header
+pub header_sound : Sound HeaderAt r.header
 header_sound ts head rest h =
     let x = then_some (r.param ts) _ (head, rest) h in
     let inner = then_some (r.expect m.OpenParen x.0.1) _ (head, rest) x.2 in
@@ -409,50 +493,3 @@ header_sound ts head rest h =
       p.all ∙ ap (λ l. g.mark m.Int p.line ∷ g.name x.0.0 p.line' ∷ l) (o.1 ∙ ap (λ l. g.mark m.OpenParen o.0 ∷ l) (took.1 ∙ ap (λ l. took.0 ++ l) (e.1 ∙ ap (λ l. g.mark m.CloseParen e.0 ∷ l) same.1) ∙ sym (append_assoc took.0 close' rest))),
       g.header p.line p.line' o.0 e.0 took.2 refl,
     )
-
-body_sound : Sound g.SpellsBody r.body
-body_sound ts value rest h =
-    let x = then_some (r.expect m.OpenBrace ts) _ (value, rest) h in
-    let y = then_some (r.expect m.Return x.0) _ (value, rest) x.2 in
-    let e = then_some (r.sum false y.0) _ (value, rest) y.2 in
-    let z = then_some (r.expect m.Semicolon e.0.1) _ (value, rest) e.2 in
-    let w = then_some (r.expect m.CloseBrace z.0) _ (value, rest) z.2 in
-    let same = parts e.0.0 value w.0 rest w.2 in
-    let o = expect_is m.OpenBrace ts x.0 x.1 in
-    let return = expect_is m.Return x.0 y.0 y.1 in
-    let took = sum_sound false y.0 e.0.0 e.0.1 e.1 in
-    let semi = expect_is m.Semicolon e.0.1 z.0 z.1 in
-    let brace = expect_is m.CloseBrace z.0 w.0 w.1 in
-    let end = g.mark m.Semicolon semi.0 ∷ g.mark m.CloseBrace brace.0 ∷ [] in
-    subst (λ value. Took g.SpellsBody ts value rest) same.0 (
-      g.mark m.OpenBrace o.0 ∷ g.mark m.Return return.0 ∷ (took.0 ++ end),
-      o.1 ∙ ap (λ l. g.mark m.OpenBrace o.0 ∷ l) (return.1 ∙ ap (λ l. g.mark m.Return return.0 ∷ l)
-          (took.1 ∙ ap (λ l. took.0 ++ l) (semi.1 ∙ ap (λ l. g.mark m.Semicolon semi.0 ∷ l) (brace.1 ∙ ap (λ l. g.mark m.CloseBrace brace.0 ∷ l) same.1)) ∙ sym (append_assoc took.0 end rest))),
-      g.body o.0 return.0 semi.0 brace.0 took.2 refl,
-    )
-
-function_sound : Sound g.SpellsFunction r.function
-function_sound ts f rest h =
-    let cs = then_some (r.contract_at ts) _ (f, rest) h in
-    let head = then_some (r.header cs.0.1) _ (f, rest) cs.2 in
-    let e = then_some (r.body head.0.1) _ (f, rest) head.2 in
-    let made : t.Function = record { name = head.0.0.0; params = head.0.0.1; requires_ = cs.0.0.0; ensures_ = cs.0.0.1; body = e.0.0 } in
-    let same = parts made f e.0.1 rest e.2 in
-    let first = contract_sound ts cs.0.0 cs.0.1 cs.1 in
-    let second = header_sound cs.0.1 head.0.0 head.0.1 head.1 in
-    let third = body_sound head.0.1 e.0.0 e.0.1 e.1 in
-    let split : ts ≡ first.0 ++ (second.0 ++ (third.0 ++ rest)) = first.1 ∙ ap (λ l. first.0 ++ l) (second.1 ∙ ap (λ l. second.0 ++ l) (third.1 ∙ ap (λ l. third.0 ++ l) same.1)) in
-    let regrouped : first.0 ++ (second.0 ++ (third.0 ++ rest)) ≡ (first.0 ++ (second.0 ++ third.0)) ++ rest = simp append_assoc in
-    (first.0 ++ (second.0 ++ third.0), split ∙ regrouped, subst (g.SpellsFunction _) same.0 (g.function first.2 second.2 third.2 refl))
-
-pub file_sound : (turns : ℕ) (ts : List Token) (fs : t.Program) → r.file turns ts ≡ Some fs → g.SpellsFile ts fs
-unfolding r.file
-file_sound zero [] fs h = let same : [] ≡ fs = cc in subst (g.SpellsFile []) same g.none
-file_sound (suc turns) [] fs h = let same : [] ≡ fs = cc in subst (g.SpellsFile []) same g.none
-file_sound zero (t ∷ ts) fs h = absurd cc
-file_sound (suc turns) (t ∷ ts) fs h =
-    let f = then_some (r.function (t ∷ ts)) (λ f. r.file turns f.1 >>= λ fs. Some (f.0 ∷ fs)) fs h in
-    let more = then_some (r.file turns f.0.1) (λ fs. Some (f.0.0 ∷ fs)) fs f.2 in
-    let same : f.0.0 ∷ more.0 ≡ fs = cc in
-    let first = function_sound (t ∷ ts) f.0.0 f.0.1 f.1 in
-    subst (g.SpellsFile (t ∷ ts)) same (g.more first.2 (file_sound turns f.0.1 more.0 more.1) first.1)

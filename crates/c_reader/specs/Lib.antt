@@ -5,4 +5,4 @@ pub mod Grammar
 pub mod Program
 pub mod Reader
 pub mod Views
-pub mod Allowed
+pub mod Scopes

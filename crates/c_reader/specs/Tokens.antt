@@ -5,6 +5,8 @@ use Rattle.std.specs.List.{list_all}
 use Rattle.std.specs.Str.{bytes_eq}
 use Rattle.c_reader.specs.declared.token.Mark.{Mark}
 use Rattle.c_reader.specs.declared.token.Mark.TheVariants as m
+use Rattle.c_reader.specs.declared.token.Mode.{Mode}
+use Rattle.c_reader.specs.declared.token.Mode.TheVariants.{Code, Block, Line}
 use Rattle.c_reader.specs.declared.token.Scope.{Scope}
 use Rattle.c_reader.specs.declared.token.Scope.TheVariants as s
 use Rattle.c_reader.specs.declared.token.Kind.{Kind}
@@ -56,19 +58,19 @@ row_of rows annotated bytes = find (λ row. is_in row.2 annotated && bytes_eq ro
 unfoldable pub punctuators : List Row
 punctuators =
     (codes "<==>", m.Other, s.Annotation) ∷ (codes "==>", m.Other, s.Annotation) ∷ (codes "...", m.Other, s.All) ∷ (codes "<<=", m.Other, s.All)
-    ∷ (codes ">>=", m.Other, s.All) ∷ (codes "/*@", m.OpenContract, s.Code) ∷ (codes "->", m.Other, s.All) ∷ (codes "++", m.Other, s.All)
+    ∷ (codes ">>=", m.Other, s.All) ∷ (codes "/*@", m.OpenAnnotation, s.Code) ∷ (codes "//@", m.OpenLine, s.Code) ∷ (codes "->", m.Other, s.All) ∷ (codes "++", m.Other, s.All)
     ∷ (codes "--", m.Other, s.All) ∷ (codes "<<", m.Other, s.All) ∷ (codes ">>", m.Other, s.All) ∷ (codes "<=", m.AtMost, s.All)
     ∷ (codes ">=", m.AtLeast, s.All) ∷ (codes "==", m.Equal, s.All) ∷ (codes "!=", m.NotEqual, s.All) ∷ (codes "&&", m.And, s.All)
     ∷ (codes "||", m.Other, s.All) ∷ (codes "^^", m.Other, s.Annotation) ∷ (codes "*=", m.Other, s.All) ∷ (codes "/=", m.Other, s.All)
     ∷ (codes "%=", m.Other, s.All) ∷ (codes "+=", m.Other, s.All) ∷ (codes "-=", m.Other, s.All) ∷ (codes "&=", m.Other, s.All)
-    ∷ (codes "^=", m.Other, s.All) ∷ (codes "|=", m.Other, s.All) ∷ (codes "..", m.Other, s.Annotation) ∷ (codes "*/", m.CloseContract, s.Annotation)
+    ∷ (codes "^=", m.Other, s.All) ∷ (codes "|=", m.Other, s.All) ∷ (codes "..", m.Other, s.Annotation) ∷ (codes "*/", m.CloseAnnotation, s.Annotation)
     ∷ (codes "//", m.Comment, s.All) ∷ (codes "/*", m.Comment, s.Code) ∷ (codes "[", m.Other, s.All) ∷ (codes "]", m.Other, s.All)
     ∷ (codes "(", m.OpenParen, s.All) ∷ (codes ")", m.CloseParen, s.All) ∷ (codes "{", m.OpenBrace, s.All) ∷ (codes "}", m.CloseBrace, s.All)
     ∷ (codes ".", m.Other, s.All) ∷ (codes "&", m.Other, s.All) ∷ (codes "*", m.Other, s.All) ∷ (codes "+", m.Plus, s.All)
     ∷ (codes "-", m.Minus, s.All) ∷ (codes "~", m.Other, s.All) ∷ (codes "!", m.Other, s.All) ∷ (codes "/", m.Other, s.All)
     ∷ (codes "%", m.Other, s.All) ∷ (codes "<", m.Less, s.All) ∷ (codes ">", m.Greater, s.All) ∷ (codes "^", m.Other, s.All)
     ∷ (codes "|", m.Other, s.All) ∷ (codes "?", m.Other, s.All) ∷ (codes ":", m.Other, s.All) ∷ (codes ";", m.Semicolon, s.All)
-    ∷ (codes "=", m.Other, s.All) ∷ (codes ",", m.Comma, s.All) ∷ []
+    ∷ (codes "=", m.Assign, s.All) ∷ (codes ",", m.Comma, s.All) ∷ []
 
 -- The words that are no names (C11 6.4.1), with those of annotations alone; and the one name with a backslash that is a token.
 unfoldable pub words : List Row
@@ -76,8 +78,8 @@ words =
     (codes "int", m.Int, s.All) ∷ (codes "void", m.Void, s.All) ∷ (codes "return", m.Return, s.All) ∷ (codes "\\result", m.Result, s.Annotation)
     ∷ (codes "_Bool", m.Other, s.All) ∷ (codes "break", m.Other, s.All) ∷ (codes "case", m.Other, s.All) ∷ (codes "char", m.Other, s.All)
     ∷ (codes "const", m.Other, s.All) ∷ (codes "continue", m.Other, s.All) ∷ (codes "default", m.Other, s.All) ∷ (codes "do", m.Other, s.All)
-    ∷ (codes "else", m.Other, s.All) ∷ (codes "enum", m.Other, s.All) ∷ (codes "extern", m.Other, s.All) ∷ (codes "for", m.Other, s.All)
-    ∷ (codes "if", m.Other, s.All) ∷ (codes "long", m.Other, s.All) ∷ (codes "short", m.Other, s.All) ∷ (codes "signed", m.Other, s.All)
+    ∷ (codes "else", m.Else, s.All) ∷ (codes "enum", m.Other, s.All) ∷ (codes "extern", m.Other, s.All) ∷ (codes "for", m.Other, s.All)
+    ∷ (codes "if", m.If, s.All) ∷ (codes "long", m.Other, s.All) ∷ (codes "short", m.Other, s.All) ∷ (codes "signed", m.Other, s.All)
     ∷ (codes "sizeof", m.Other, s.All) ∷ (codes "static", m.Other, s.All) ∷ (codes "struct", m.Other, s.All) ∷ (codes "switch", m.Other, s.All)
     ∷ (codes "typedef", m.Other, s.All) ∷ (codes "unsigned", m.Other, s.All) ∷ (codes "while", m.Other, s.All) ∷ (codes "auto", m.Other, s.All)
     ∷ (codes "register", m.Other, s.All) ∷ (codes "inline", m.Other, s.All) ∷ (codes "float", m.Other, s.All) ∷ (codes "double", m.Other, s.All)
@@ -156,25 +158,45 @@ token_at annotated bytes =
 abbrev pub line_after : ℕ → (line : ℕ) → ℕ
 line_after b line = if b == 10 then line + 1 else line
 
--- whether what comes after a token stands in an annotation
-abbrev pub annotated_after : Kind → (annotated : Bool) → Bool
-annotated_after (k.Mark m.OpenContract) annotated = true
-annotated_after (k.Mark m.CloseContract) annotated = false
-annotated_after kind annotated = annotated
+-- what the bytes after a token stand in; `*/` ends only what `/*@` began
+abbrev pub mode_after : Kind → Mode → Mode
+mode_after (k.Mark m.OpenAnnotation) place = Block
+mode_after (k.Mark m.OpenLine) place = Line
+mode_after (k.Mark m.CloseAnnotation) Block = Code
+mode_after kind place = place
+
+abbrev pub is_annotation : Mode → Bool
+is_annotation Code = false
+is_annotation Block = true
+is_annotation Line = true
+
+-- a newline, which ends an annotation after `//@`
+abbrev pub ends_line : Mode → ℕ → Bool
+ends_line Line b = b == 10
+ends_line place b = false
+
+abbrev pub line_end : (line : ℕ) → Token
+line_end line = record { kind = k.Mark m.CloseLine; line = line }
+
+-- the end of the file ends such an annotation too
+abbrev pub tokens_at_end : Mode → (line : ℕ) → List Token
+tokens_at_end Line line = line_end line ∷ []
+tokens_at_end place line = []
 
 -- goes on after a token
-abbrev pub after_token : Option (Kind × ℕ) → (annotated : Bool) → (line : ℕ) → (Bool → ℕ → Option (List Token)) → Option (List Token)
-after_token None annotated line go = None
-after_token (Some t) annotated line go = option_map (λ ts. record { kind = t.0; line = line } ∷ ts) (go (annotated_after t.0 annotated) (t.1 - 1))
+abbrev pub after_token : Option (Kind × ℕ) → Mode → (line : ℕ) → (Mode → ℕ → Option (List Token)) → Option (List Token)
+after_token None place line go = None
+after_token (Some t) place line go = option_map (λ ts. record { kind = t.0; line = line } ∷ ts) (go (mode_after t.0 place) (t.1 - 1))
 
 -- The tokens from here on, past the bytes that are left of a token; none where no token begins at some place past blanks.
--- An annotation that is left open has tokens, but no place in the grammar.
-abbrev pub tokens_from : (annotated : Bool) → (line left : ℕ) → List ℕ → Option (List Token)
-tokens_from annotated line left [] = Some []
-tokens_from annotated line (suc left) (b ∷ bytes) = tokens_from annotated line left bytes
-tokens_from annotated line zero (b ∷ bytes) =
-    if is_blank annotated b then tokens_from annotated (line_after b line) 0 bytes
-    else after_token (token_at annotated (b ∷ bytes)) annotated line (λ annotated left. tokens_from annotated line left bytes)
+-- An annotation `/*@` that is left open has tokens, but no place in the grammar.
+abbrev pub tokens_from : Mode → (line left : ℕ) → List ℕ → Option (List Token)
+tokens_from place line left [] = Some (tokens_at_end place line)
+tokens_from place line (suc left) (b ∷ bytes) = tokens_from place line left bytes
+tokens_from place line zero (b ∷ bytes) =
+    if ends_line place b then option_map (λ ts. line_end line ∷ ts) (tokens_from Code (line + 1) 0 bytes)
+    else (if is_blank (is_annotation place) b then tokens_from place (line_after b line) 0 bytes
+    else after_token (token_at (is_annotation place) (b ∷ bytes)) place line (λ place left. tokens_from place line left bytes))
 
 abbrev pub tokens_of : (text : List ℕ) → Option (List Token)
-tokens_of text = tokens_from false 1 0 text
+tokens_of text = tokens_from Code 1 0 text

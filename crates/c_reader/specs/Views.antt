@@ -1,8 +1,9 @@
 -- What a reader of the program gives, beside what the reader on lists gives.
-use Rattle.std.specs.Prelude.{◌≡◌, List, ◌∷◌, [], ◌++◌, map, Option, Some, None, Result, Ok, Err}
+use Rattle.std.specs.Prelude.{◌≡◌, ℕ, List, ◌∷◌, [], ◌++◌, map, Option, Some, None, Result, Ok, Err}
 use Rattle.std.specs.Borrow.{Bor}
 use Rattle.core_prog.specs.Tree as t
-use Rattle.core_prog.specs.View.{view_clause}
+use Rattle.core_prog.specs.declared.tree.Stmt.{Stmt}
+use Rattle.core_prog.specs.View.{view_clause, view_stmt}
 use Rattle.c_reader.specs.Reader.{Clauses, ◌>>=◌}
 use Rattle.c_reader.specs.declared.contracts.Contract.{Contract}
 use Rattle.c_reader.specs.declared.contracts.Keyword.{Keyword}
@@ -54,3 +55,15 @@ with_items xs given = given >>= λ x. Some (xs ++ x.0, x.1)
 
 abbrev pub with_functions : t.Program → Option t.Program → Option t.Program
 with_functions fs given = given >>= λ gs. Some (fs ++ gs)
+
+-- the statements of a block, with the line of its closing brace
+abbrev pub view_block : List Stmt × ℕ → t.Stmts × ℕ
+view_block b = (t.stmts_of (map view_stmt b.0), b.1)
+
+abbrev pub before : List t.Stmt → t.Stmts → t.Stmts
+before [] rest = rest
+before (s ∷ ss) rest = t.more s (before ss rest)
+
+-- these, and then those that are read
+abbrev pub with_stmts : List t.Stmt → Option ((t.Stmts × ℕ) × List Token) → Option ((t.Stmts × ℕ) × List Token)
+with_stmts ss given = given >>= λ x. Some ((before ss x.0.0, x.0.1), x.1)

@@ -83,7 +83,7 @@ fn clauses(alloc: Global, tokens: &[Token]) -> Result<(Contract, &[Token]), Faul
     let mut contract = Contract::new(alloc);
     let mut rest = tokens;
     for turn in 0..tokens.len() {
-        if let Some(after) = after_mark(Mark::CloseContract, rest) {
+        if let Some(after) = after_mark(Mark::CloseAnnotation, rest) {
             return Ok((contract, after));
         }
         let ((keyword, clause), after) = clause(alloc, rest)?;
@@ -97,7 +97,7 @@ fn clauses(alloc: Global, tokens: &[Token]) -> Result<(Contract, &[Token]), Faul
 pub fn contract_at(alloc: Global, tokens: &[Token]) -> Result<(Contract, &[Token]), Fault>
     ensures { Gives view_contract result (spec.contract_at tokens.now) }
 {
-    match after_mark(Mark::OpenContract, tokens) {
+    match after_mark(Mark::OpenAnnotation, tokens) {
         Some(rest) => clauses(alloc, rest),
         None => Ok((Contract::new(alloc), tokens)),
     }

@@ -1,29 +1,17 @@
 // Functions, and the file that they make.
 ghost use Rattle.std.specs.Prelude.{◌≡◌, length, map};
-ghost use Rattle.core_prog.specs.View.{view_expr, view_function};
+ghost use Rattle.core_prog.specs.View.{view_function};
 ghost use Rattle.c_reader.specs.Reader as spec;
-ghost use Rattle.c_reader.specs.Views.{Gives, GivesAll, with_items};
+ghost use Rattle.c_reader.specs.Views.{Gives, GivesAll, view_block, with_items};
 
 use crate::contracts::contract_at;
 use crate::fault::Fault;
-use crate::marks::{after_mark, expect};
-use crate::sums::sum;
-use crate::token::{Kind, Mark, Token};
-use core_prog::{Expr, Function};
+use crate::marks::{after_mark, expect, name};
+use crate::stmts::stmts;
+use crate::token::{Mark, Token};
+use core_prog::{Function, Stmt};
 use std::alloc::Global;
-use wp_base::{List, Str};
-
-fn name(alloc: Global, tokens: &[Token]) -> Result<(Str, &[Token]), Fault>
-    ensures { Gives (λ x. x) result (spec.name tokens.now) }
-{
-    let Some((first, rest)) = tokens.split_first() else {
-        return Err(Fault::Syntax);
-    };
-    match &first.kind {
-        Kind::Name(name) => Ok((name.copy(alloc)?, rest)),
-        _ => Err(Fault::Syntax),
-    }
-}
+use wp_base::{Line, List, Str};
 
 // `int` and a name.
 fn param(alloc: Global, tokens: &[Token]) -> Result<(Str, &[Token]), Fault>
@@ -83,16 +71,12 @@ fn header(alloc: Global, tokens: &[Token]) -> Result<((Str, List<Str>), &[Token]
     Ok(((name, params), rest))
 }
 
-// The sum that a function returns.
-fn body(alloc: Global, tokens: &[Token]) -> Result<(Expr, &[Token]), Fault>
-    ensures { Gives view_expr result (spec.body tokens.now) }
+// The statements of a function, with the line on which it ends.
+fn body(alloc: Global, tokens: &[Token]) -> Result<((List<Stmt>, Line), &[Token]), Fault>
+    ensures { Gives view_block result (spec.body tokens.now) }
 {
     let rest = expect(Mark::OpenBrace, tokens)?;
-    let rest = expect(Mark::Return, rest)?;
-    let (value, rest) = sum(alloc, false, rest)?;
-    let rest = expect(Mark::Semicolon, rest)?;
-    let rest = expect(Mark::CloseBrace, rest)?;
-    Ok((value, rest))
+    stmts(alloc, rest.len(), rest)
 }
 
 fn function(alloc: Global, tokens: &[Token]) -> Result<(Function, &[Token]), Fault>
@@ -100,13 +84,14 @@ fn function(alloc: Global, tokens: &[Token]) -> Result<(Function, &[Token]), Fau
 {
     let (contract, rest) = contract_at(alloc, tokens)?;
     let ((name, params), rest) = header(alloc, rest)?;
-    let (body, rest) = body(alloc, rest)?;
+    let ((body, end), rest) = body(alloc, rest)?;
     let function = Function {
         name,
         params,
         requires_: contract.requires_,
         ensures_: contract.ensures_,
         body,
+        end,
     };
     Ok((function, rest))
 }

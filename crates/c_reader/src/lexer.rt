@@ -1,12 +1,12 @@
 // From bytes to tokens, by longest match.
-ghost use Rattle.std.specs.Prelude.{◌≡◌, ◌≤◌, ◌<◌, ◌^◌, length, map, true, false, Some, IfOk, IfSome, MatchResult, SomeIff};
+ghost use Rattle.std.specs.Prelude.{◌≡◌, ◌≤◌, ◌<◌, ◌^◌, ◌++◌, length, map, true, false, Some, IfOk, IfSome, MatchResult, SomeIff};
 ghost use Rattle.std.specs.Option.{option_map};
 ghost use Rattle.std.specs.List.{prefix_len, list_all};
 ghost use Rattle.c_reader.specs.Tokens as spec;
 ghost use Rattle.c_reader.specs.Scan.{begins_digit, begins_name, first_row, IsFault};
 
 use crate::fault::Fault;
-use crate::token::{Kind, Mark, PUNCTUATORS, Scope, Token, WORDS};
+use crate::token::{Kind, Mark, Mode, PUNCTUATORS, Scope, Token, WORDS};
 use std::alloc::Global;
 use wp_base::{Line, NoMemory, Str};
 
@@ -240,14 +240,47 @@ fn token_at(alloc: Global, annotated: bool, bytes: &[u8]) -> Result<Option<(Kind
     }
 }
 
-fn annotated_after(kind: &Kind, annotated: bool) -> bool
-    ensures { result ≡ spec.annotated_after kind.now annotated }
+fn mode_after(kind: &Kind, mode: Mode) -> Mode
+    ensures { result ≡ spec.mode_after kind.now mode }
 {
-    match kind {
-        Kind::Mark(Mark::OpenContract) => true,
-        Kind::Mark(Mark::CloseContract) => false,
-        _ => annotated,
+    match (kind, mode) {
+        (Kind::Mark(Mark::OpenAnnotation), _) => Mode::Block,
+        (Kind::Mark(Mark::OpenLine), _) => Mode::Line,
+        (Kind::Mark(Mark::CloseAnnotation), Mode::Block) => Mode::Code,
+        _ => mode,
     }
+}
+
+fn is_annotation(mode: Mode) -> bool
+    ensures { result ≡ spec.is_annotation mode }
+{
+    match mode {
+        Mode::Code => false,
+        Mode::Block | Mode::Line => true,
+    }
+}
+
+fn ends_line(mode: Mode, b: u8) -> bool
+    ensures { result ≡ spec.ends_line mode b }
+{
+    match mode {
+        Mode::Code | Mode::Block => false,
+        Mode::Line => b == b'\n',
+    }
+}
+
+// The last tokens of a text that ends in this mode.
+fn end(mut tokens: Vec<Token>, mode: Mode, line: Line) -> Result<Vec<Token>, NoMemory>
+    ensures { IfOk result (λ all. all.items ≡ tokens.items ++ spec.tokens_at_end mode line) }
+{
+    match mode {
+        Mode::Code | Mode::Block => {}
+        Mode::Line => tokens.push(Token {
+            kind: Kind::Mark(Mark::CloseLine),
+            line,
+        })?,
+    }
+    Ok(tokens)
 }
 
 /// The tokens of a text.
@@ -256,23 +289,31 @@ pub fn lex(alloc: Global, text: &[u8]) -> Result<Vec<Token>, Fault>
     ensures { MatchResult result (λ v. spec.tokens_of text.now ≡ Some v.items) (λ fault. IsFault fault (spec.tokens_of text.now)) }
 {
     let mut tokens = Vec::new(alloc);
-    let mut annotated = false;
+    let mut mode = Mode::Code;
     let mut line: Line = 1;
     let mut rest = text;
     while let [first, after @ ..] = rest {
-        if is_blank(annotated, *first) {
+        if ends_line(mode, *first) {
+            tokens.push(Token {
+                kind: Kind::Mark(Mark::CloseLine),
+                line,
+            })?;
+            mode = Mode::Code;
+            line += 1;
+            rest = after;
+        } else if is_blank(is_annotation(mode), *first) {
             if *first == b'\n' {
                 line += 1;
             }
             rest = after;
         } else {
-            let Some((kind, len)) = token_at(alloc, annotated, rest)? else {
+            let Some((kind, len)) = token_at(alloc, is_annotation(mode), rest)? else {
                 return Err(Fault::Syntax);
             };
-            annotated = annotated_after(&kind, annotated);
+            mode = mode_after(&kind, mode);
             tokens.push(Token { kind, line })?;
             rest = &rest[len..];
         }
     }
-    Ok(tokens)
+    Ok(end(tokens, mode, line)?)
 }

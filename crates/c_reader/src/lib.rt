@@ -1,7 +1,8 @@
-//! Reads a text of the first language: from bytes to the program tree.
+//! Reads a text of the language: from bytes to the program tree.
 #![tactic(auto)]
 
 mod contracts;
+mod exprs;
 mod fault;
 mod functions;
 mod lexer;
@@ -9,7 +10,8 @@ mod marks;
 mod names;
 mod preds;
 mod reader;
-mod sums;
+mod scopes;
+mod stmts;
 #[cfg(test)]
 mod tests;
 mod token;

@@ -1,9 +1,11 @@
-// Marks at the front of tokens.
+// Marks and names at the front of tokens.
 ghost use Rattle.c_reader.specs.Reader as spec;
-ghost use Rattle.c_reader.specs.Views.{FindsRest, GivesRest};
+ghost use Rattle.c_reader.specs.Views.{FindsRest, Gives, GivesRest};
 
 use crate::fault::Fault;
 use crate::token::{Kind, Mark, Token};
+use std::alloc::Global;
+use wp_base::Str;
 
 /// The tokens after this mark, if it comes first.
 pub fn after_mark(mark: Mark, tokens: &[Token]) -> Option<&[Token]>
@@ -23,5 +25,18 @@ pub fn expect(mark: Mark, tokens: &[Token]) -> Result<&[Token], Fault>
     match after_mark(mark, tokens) {
         Some(rest) => Ok(rest),
         None => Err(Fault::Syntax),
+    }
+}
+
+/// A name.
+pub fn name(alloc: Global, tokens: &[Token]) -> Result<(Str, &[Token]), Fault>
+    ensures { Gives (λ x. x) result (spec.name tokens.now) }
+{
+    let Some((first, rest)) = tokens.split_first() else {
+        return Err(Fault::Syntax);
+    };
+    match &first.kind {
+        Kind::Name(name) => Ok((name.copy(alloc)?, rest)),
+        _ => Err(Fault::Syntax),
     }
 }

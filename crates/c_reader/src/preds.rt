@@ -3,42 +3,27 @@ ghost use Rattle.std.specs.Prelude.{◌≡◌, length, IfOk};
 ghost use Rattle.core_prog.specs.Tree as t;
 ghost use Rattle.core_prog.specs.View.{view_pred};
 ghost use Rattle.c_reader.specs.Reader as spec;
-ghost use Rattle.c_reader.specs.Views.{Finds, Gives};
+ghost use Rattle.c_reader.specs.Views.{Gives};
 
+use crate::exprs::{MOST_OPEN, comparison, sum};
 use crate::fault::Fault;
 use crate::marks::after_mark;
-use crate::sums::sum;
-use crate::token::{Kind, Mark, Token};
-use core_prog::{Comparison, Pred};
+use crate::token::{Mark, Token};
+use core_prog::Pred;
 use std::alloc::Global;
 use wp_base::{Boxed, NoMemory};
-
-fn comparison(tokens: &[Token]) -> Option<(Comparison, &[Token])>
-    ensures { Finds result (spec.comparison tokens.now) }
-{
-    let (first, rest) = tokens.split_first()?;
-    match first.kind {
-        Kind::Mark(Mark::Less) => Some((Comparison::Less, rest)),
-        Kind::Mark(Mark::AtMost) => Some((Comparison::AtMost, rest)),
-        Kind::Mark(Mark::Greater) => Some((Comparison::Greater, rest)),
-        Kind::Mark(Mark::AtLeast) => Some((Comparison::AtLeast, rest)),
-        Kind::Mark(Mark::Equal) => Some((Comparison::Equal, rest)),
-        Kind::Mark(Mark::NotEqual) => Some((Comparison::NotEqual, rest)),
-        _ => None,
-    }
-}
 
 // Two sums, compared.
 #[tactic(auto, using(crate::proofs::Reading::views))]
 fn compared(alloc: Global, tokens: &[Token]) -> Result<(Pred, &[Token]), Fault>
     ensures { Gives view_pred result (spec.compared tokens.now) }
 {
-    let (left, rest) = sum(alloc, true, tokens)?;
-    let Some((test, rest)) = comparison(rest) else {
+    let (left, rest) = sum(alloc, true, MOST_OPEN, tokens)?;
+    let Some(((how, _), rest)) = comparison(rest) else {
         return Err(Fault::Syntax);
     };
-    let (right, rest) = sum(alloc, true, rest)?;
-    Ok((Pred::Compare(test, left, right), rest))
+    let (right, rest) = sum(alloc, true, MOST_OPEN, rest)?;
+    Ok((Pred::Compare(how, left, right), rest))
 }
 
 // Two predicates that hold together.

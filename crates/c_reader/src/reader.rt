@@ -20,7 +20,7 @@ fn program(alloc: Global, text: &[u8]) -> Result<Core, Fault>
 {
     let tokens = lex(alloc, text)?;
     let functions = file(alloc, tokens.as_slice())?;
-    if !are_well_named(functions.as_slice()) {
+    if !are_well_named(alloc, functions.as_slice())? {
         return Err(Fault::Syntax);
     }
     Ok(Core { functions })

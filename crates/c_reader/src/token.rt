@@ -8,12 +8,18 @@ pub enum Mark {
     Int,
     Void,
     Return,
+    If,
+    Else,
     /// `\result`.
     Result,
     /// `/*@`.
-    OpenContract,
+    OpenAnnotation,
     /// `*/` in an annotation.
-    CloseContract,
+    CloseAnnotation,
+    /// `//@`.
+    OpenLine,
+    /// The end of a line, or of the file, that ends an annotation after `//@`.
+    CloseLine,
     /// What begins a comment, and is no token.
     Comment,
     OpenParen,
@@ -31,6 +37,7 @@ pub enum Mark {
     Equal,
     NotEqual,
     And,
+    Assign,
     /// A punctuator or a word that the grammar doesn't use.
     Other,
 }
@@ -58,18 +65,28 @@ pub enum Scope {
     Annotation,
 }
 
+/// What bytes stand in: C, an annotation between `/*@` and `*/`, or one from `//@` to the end of its
+/// line (ACSL 2.1).
+#[derive(Clone, Copy, PartialEq, Eq)]
+pub enum Mode {
+    Code,
+    Block,
+    Line,
+}
+
 /// The name of the returned value in an annotation (ACSL 2.3.1).
 pub const RESULT: &[u8] = b"\\result";
 
 /// The punctuators (C11 6.4.6, ACSL 2.2), what opens and closes an annotation, and what begins a
 /// comment: the longest first.
-pub const PUNCTUATORS: [(&[u8], Mark, Scope); 54] = [
+pub const PUNCTUATORS: [(&[u8], Mark, Scope); 55] = [
     (b"<==>", Mark::Other, Scope::Annotation),
     (b"==>", Mark::Other, Scope::Annotation),
     (b"...", Mark::Other, Scope::All),
     (b"<<=", Mark::Other, Scope::All),
     (b">>=", Mark::Other, Scope::All),
-    (b"/*@", Mark::OpenContract, Scope::Code),
+    (b"/*@", Mark::OpenAnnotation, Scope::Code),
+    (b"//@", Mark::OpenLine, Scope::Code),
     (b"->", Mark::Other, Scope::All),
     (b"++", Mark::Other, Scope::All),
     (b"--", Mark::Other, Scope::All),
@@ -91,7 +108,7 @@ pub const PUNCTUATORS: [(&[u8], Mark, Scope); 54] = [
     (b"^=", Mark::Other, Scope::All),
     (b"|=", Mark::Other, Scope::All),
     (b"..", Mark::Other, Scope::Annotation),
-    (b"*/", Mark::CloseContract, Scope::Annotation),
+    (b"*/", Mark::CloseAnnotation, Scope::Annotation),
     (b"//", Mark::Comment, Scope::All),
     (b"/*", Mark::Comment, Scope::Code),
     (b"[", Mark::Other, Scope::All),
@@ -116,7 +133,7 @@ pub const PUNCTUATORS: [(&[u8], Mark, Scope); 54] = [
     (b"?", Mark::Other, Scope::All),
     (b":", Mark::Other, Scope::All),
     (b";", Mark::Semicolon, Scope::All),
-    (b"=", Mark::Other, Scope::All),
+    (b"=", Mark::Assign, Scope::All),
     (b",", Mark::Comma, Scope::All),
 ];
 
@@ -134,11 +151,11 @@ pub const WORDS: [(&[u8], Mark, Scope); 48] = [
     (b"continue", Mark::Other, Scope::All),
     (b"default", Mark::Other, Scope::All),
     (b"do", Mark::Other, Scope::All),
-    (b"else", Mark::Other, Scope::All),
+    (b"else", Mark::Else, Scope::All),
     (b"enum", Mark::Other, Scope::All),
     (b"extern", Mark::Other, Scope::All),
     (b"for", Mark::Other, Scope::All),
-    (b"if", Mark::Other, Scope::All),
+    (b"if", Mark::If, Scope::All),
     (b"long", Mark::Other, Scope::All),
     (b"short", Mark::Other, Scope::All),
     (b"signed", Mark::Other, Scope::All),

@@ -7,7 +7,7 @@ use Rattle.c_reader.proofs.lexer.lex.Given as goal
 abbrev pub invariant-loop-rest : goal.invariant-loop-rest
 invariant-loop-rest l = record {
   few_lines : l.line + length l.rest ≤ length l.text + 1;
-  all_tokens : ahead_of l.tokens.items (tokens_from l.annotated l.line 0 l.rest) ≡ tokens_of l.text;
+  all_tokens : ahead_of l.tokens.items (tokens_from l.mode l.line 0 l.rest) ≡ tokens_of l.text;
 }
 
 abbrev pub decreases-loop-rest : goal.decreases-loop-rest

@@ -1,6 +1,6 @@
 use Rattle.std.proofs.Common.{◌≡◌, length}
 use Rattle.core_prog.specs.Names.{all_differ}
-use Rattle.c_reader.specs.Allowed.{names_of}
+use Rattle.c_reader.specs.Scopes.{names_of}
 use Rattle.c_reader.proofs.names.functions_differ.Given as goal
 
 abbrev pub invariant-loop-rest : goal.invariant-loop-rest

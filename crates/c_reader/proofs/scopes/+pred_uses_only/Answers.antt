@@ -2,13 +2,13 @@ use Rattle.std.proofs.Common.{rules, ap, ◌∙◌}
 use Rattle.core_prog.specs.declared.tree.Pred.{the_lemmas}
 use Rattle.core_prog.specs.View.{view_pred}
 use Rattle.core_prog.specs.Names.{pred_uses_only}
-use Rattle.c_reader.specs.Allowed.{allowed}
+use Rattle.c_reader.specs.Scopes.{scope_of}
 use Rattle.c_reader.proofs.Naming.{and_by_left}
-use Rattle.c_reader.proofs.names.+pred_uses_only.Goals as goal
+use Rattle.c_reader.proofs.scopes.+pred_uses_only.Goals as goal
 
 pub loop-rest-preserved : goal.loop-rest-preserved
 loop-rest-preserved t c =
-    let names = allowed c.args.with_result c.args.params.now in
+    let names = scope_of c.args.params.now c.args.locals.now in
     let used = c.if-not-pred_uses_only.ensures ∙ ap (λ p. pred_uses_only names (view_pred p)) c.get.ensures in
     record {
       same = ap (λ p. pred_uses_only names (view_pred p)) c.get-rest.ensures

@@ -1,15 +1,13 @@
--- What a run of a function does (C11 6.5, 6.5.6, 6.8.6.4), and when an annotation is true (ACSL 2.2, 2.3.1).
-use Rattle.std.specs.Prelude.{◌≡◌, ℕ, ℤ, pos, int_lt, int_le, Bool, true, not, ◌&&◌, if◌then◌else◌, List, [], ◌∷◌, map, length, Option, Some, None}
+-- What a run of a function does (C11 6.5, 6.5.6, 6.5.8, 6.5.9, 6.8).
+use Rattle.std.specs.Prelude.{◌≡◌, ℕ, ℤ, pos, true, if◌then◌else◌, List, [], ◌∷◌, ◌++◌, length, take, Option, Some, None}
 use Rattle.std.specs.Ordering.{int_eq}
-use Rattle.std.specs.Str.{bytes_eq}
 use Rattle.core_prog.specs.declared.tree.SumOp.{SumOp}
 use Rattle.core_prog.specs.declared.tree.Comparison.{Comparison}
-use Rattle.core_prog.specs.declared.tree.Comparison.TheVariants as is
-use Rattle.core_prog.specs.Names.{result_name}
+use Rattle.core_prog.specs.Tree.{Expr, number, name, sum, test, Stmt, block, declare, define, assign, give, choose, assert, Stmts, stop, more, Function}
 use Rattle.wp_calculus.specs.Int.{is_int, apply_op}
-use Rattle.core_prog.specs.Tree.{Expr, number, name, sum, Pred, compare, both, Clause, Function}
+use Rattle.wp_calculus.specs.State.{Variable, State, holding, unset, find, put, Local, locals_of, compares, truth_number, is_true, entry, held_by, with_result, clause_truths, AllTrue}
 
--- ---- a run
+-- ---- expressions
 
 -- a sum outside `int` is undefined (overflow)
 abbrev pub where_int : ℤ → Option ℤ
@@ -20,76 +18,107 @@ sum_of o None b = None
 sum_of o (Some a) None = None
 sum_of o (Some a) (Some b) = where_int (apply_op o a b)
 
+abbrev pub test_of : Comparison → Option ℤ → Option ℤ → Option ℤ
+test_of how None b = None
+test_of how (Some a) None = None
+test_of how (Some a) (Some b) = Some (truth_number (compares how a b))
+
+-- reading a local before a value was set is undefined (init; C11 6.3.2.1p2)
+abbrev pub read : Option Variable → Option ℤ
+read None = None
+read (Some v) = if int_eq v.flag (pos 1) then Some v.value else None
+
 -- the value of an expression, or none where it meets undefined behaviour
-abbrev pub evaluate : (List ℕ → Option ℤ) → Expr → Option ℤ
-evaluate env (number z) = Some z
-evaluate env (name x) = env x
-evaluate env (sum o line left right) = sum_of o (evaluate env left) (evaluate env right)
+abbrev pub evaluate : State → Expr → Option ℤ
+evaluate st (number z) = Some z
+evaluate st (name x line) = read (find st x)
+evaluate st (sum o line left right) = sum_of o (evaluate st left) (evaluate st right)
+evaluate st (test how line left right) = test_of how (evaluate st left) (evaluate st right)
 
--- the argument for a parameter
-abbrev pub argument : List (List ℕ) → List ℤ → List ℕ → Option ℤ
-argument [] args x = None
-argument (p ∷ params) [] x = None
-argument (p ∷ params) (a ∷ args) x = if bytes_eq p x then Some a else argument params args x
+-- ---- statements
 
--- what a run of the function on these arguments returns, or none where it is undefined
-abbrev pub run : Function → List ℤ → Option ℤ
-run f args = evaluate (argument f.params args) f.body
+-- How a statement ends: it goes on, with the contents that are left for locals to come; the function returns; it met undefined
+-- behaviour; or an assertion was false.
+pub data Outcome : Type 0 where
+  goes_on : (contents : List ℤ) (st : State) → Outcome
+  returns : (z : ℤ) → Outcome
+  undefined : Outcome
+  fails : Outcome
 
--- ---- annotations, over unbounded integers
+-- The next content; one that is no `int`, or that is no longer there, counts as 0.
+abbrev pub next : List ℤ → ℤ
+next [] = pos 0
+next (z ∷ zs) = if is_int z then z else pos 0
 
-abbrev pub term_value : (List ℕ → ℤ) → Expr → ℤ
-term_value env (number z) = z
-term_value env (name x) = env x
-term_value env (sum o line left right) = apply_op o (term_value env left) (term_value env right)
+abbrev pub others : List ℤ → List ℤ
+others [] = []
+others (z ∷ zs) = zs
 
-abbrev pub compares : Comparison → ℤ → ℤ → Bool
-compares is.Less a b = int_lt a b
-compares is.AtMost a b = int_le a b
-compares is.Greater a b = int_lt b a
-compares is.AtLeast a b = int_le b a
-compares is.Equal a b = int_eq a b
-compares is.NotEqual a b = not (int_eq a b)
+-- A block's locals where it is entered: one without a value has the next content and isn't set; one with a value can't be named
+-- before it is defined.
+abbrev pub entered : List Local → List ℤ → State
+entered [] contents = []
+entered (l ∷ ls) contents = if l.has_value then holding l.name (pos 0) ∷ entered ls contents else unset l.name (next contents) ∷ entered ls (others contents)
 
-abbrev pub pred_truth : (List ℕ → ℤ) → Pred → Bool
-pred_truth env (compare test left right) = compares test (term_value env left) (term_value env right)
-pred_truth env (both left right) = pred_truth env left && pred_truth env right
+abbrev pub left_of : List Local → List ℤ → List ℤ
+left_of [] contents = contents
+left_of (l ∷ ls) contents = if l.has_value then left_of ls contents else left_of ls (others contents)
 
-abbrev pub or_zero : Option ℤ → ℤ
-or_zero None = pos 0
-or_zero (Some z) = z
+abbrev pub then_do : Outcome → (List ℤ → State → Outcome) → Outcome
+then_do (goes_on contents st) go = go contents st
+then_do (returns z) go = returns z
+then_do undefined go = undefined
+then_do fails go = fails
 
--- the value of each name at entry
-abbrev pub at_entry : Function → List ℤ → List ℕ → ℤ
-at_entry f args x = or_zero (argument f.params args x)
+abbrev pub with_value : Option ℤ → (ℤ → Outcome) → Outcome
+with_value None go = undefined
+with_value (Some z) go = go z
 
--- the same, with the returned value under its name
-abbrev pub at_return : (List ℕ → ℤ) → ℤ → List ℕ → ℤ
-at_return env z x = if bytes_eq result_name x then z else env x
+-- the block's locals end with it
+abbrev pub leave : ℕ → List ℤ → State → Outcome
+leave n contents st = goes_on contents (take n st)
 
-abbrev pub AllTrue : List Bool → Type 0
-AllTrue [] = Unit {0}
-AllTrue (b ∷ bs) = (b ≡ true) × AllTrue bs
+abbrev mutual
+  pub exec : Stmt → List ℤ → State → Outcome
+  exec (block ss) contents st = then_do (exec_all ss (left_of (locals_of ss) contents) (st ++ entered (locals_of ss) contents)) (leave (length st))
+  exec (declare x) contents st = goes_on contents st
+  exec (define x e) contents st = with_value (evaluate st e) (λ z. goes_on contents (put x z st))
+  exec (assign x e) contents st = with_value (evaluate st e) (λ z. goes_on contents (put x z st))
+  exec (give e) contents st = with_value (evaluate st e) returns
+  exec (choose e a b) contents st = with_value (evaluate st e) (λ z. if int_eq z (pos 0) then exec b contents st else exec a contents st)
+  exec (assert p line) contents st = if is_true st p then goes_on contents st else fails
+
+  pub exec_all : Stmts → List ℤ → State → Outcome
+  exec_all stop contents st = goes_on contents st
+  exec_all (more s ss) contents st = then_do (exec s contents st) (exec_all ss)
+
+-- ---- functions
+
+-- the end of the body reached without a value is undefined (noreturn; this project's choice, stricter than C11 6.9.1p12)
+abbrev pub off_the_end : List ℤ → State → Outcome
+off_the_end contents st = undefined
+
+-- A run of the function on these arguments. The contents are those that its locals without a value have, in the order in which they are made.
+abbrev pub run : Function → List ℤ → List ℤ → Outcome
+run f args contents = then_do (exec (block f.body) contents (entry f.params args)) off_the_end
 
 abbrev pub AllInt : List ℤ → Type 0
 AllInt [] = Unit {0}
 AllInt (z ∷ zs) = (is_int z ≡ true) × AllInt zs
 
-abbrev pub clause_truths : (List ℕ → ℤ) → List Clause → List Bool
-clause_truths env clauses = map (λ (c : Clause). pred_truth env c.pred) clauses
-
 -- one argument of type `int` for each parameter, and each `requires` is true
 pub record Starts (f : Function) (args : List ℤ) : Type 0 where
   pub number : length args ≡ length f.params
   pub in_range : AllInt args
-  pub required : AllTrue (clause_truths (at_entry f args) f.requires_)
+  pub required : AllTrue (clause_truths (held_by (entry f.params args)) f.requires_)
 
--- it returns a value, so it met no undefined behaviour, and each `ensures` is true
-pub record ReturnsWell (f : Function) (args : List ℤ) : Type 0 where
+-- It returns a value, so it met no undefined behaviour and no assertion that is false, and each `ensures` is true.
+pub record ReturnsWell (f : Function) (args contents : List ℤ) : Type 0 where
   pub value : ℤ
-  pub returned : run f args ≡ Some value
-  pub promised : AllTrue (clause_truths (at_return (at_entry f args) value) f.ensures_)
+  pub returned : run f args contents ≡ returns value
+  pub promised : AllTrue (clause_truths (with_result (entry f.params args) value) f.ensures_)
 
--- from all arguments that meet the contract's `requires` its run meets no undefined behaviour and returns with its `ensures`
+-- From all arguments that meet the contract's `requires`, and whatever its locals hold before they are set, its run meets no undefined
+-- behaviour and no failed assertion and returns with its `ensures`.
 abbrev pub IsCorrect : Function → Type 0
-IsCorrect f = (args : List ℤ) → Starts f args → ReturnsWell f args
+IsCorrect f = (args contents : List ℤ) → Starts f args → ReturnsWell f args contents

@@ -1,10 +1,15 @@
 //! The written goals of a program, and what they say of its runs.
 #![tactic(auto)]
 
-mod formulas;
+mod annotations;
+mod checks;
 mod function_goals;
+mod joins;
 mod laws;
+mod names;
 mod places;
+mod slots;
+mod statements;
 mod values;
 
 pub use function_goals::goals;

@@ -1,18 +1,25 @@
 // Checks, and the goals that stand for them.
 
-use qed_terms::{Formula, Goal};
+use qed_terms::Goal;
 use wp_base::Line;
 
 /// What a check asks for.
 #[derive(Clone, Copy, Debug, PartialEq, Eq)]
 pub enum Check {
+    /// A local that is read was set (C11 6.3.2.1p2).
+    Init,
     /// A sum lies in `int` (C11 6.5p5, 6.5.6).
     Overflow,
+    /// The end of the body isn't reached without a value (stricter than C11 6.9.1p12).
+    NoReturn,
+    /// An assertion is true where it stands (ACSL 2.4.1).
+    Assert,
     /// A clause `ensures` is true at the return (ACSL 2.3.1).
     Ensures,
 }
 
-/// A check of a function, with the line of its operator or of its clause's keyword.
+/// A check of a function, with the line of its operator, its name or its keyword; that of the closing
+/// brace for the end of the body.
 #[derive(Clone, Copy, Debug, PartialEq, Eq)]
 pub struct CheckPlace {
     pub check: Check,
@@ -24,11 +31,4 @@ pub struct CheckPlace {
 pub struct NamedGoal {
     pub place: CheckPlace,
     pub goal: Goal,
-}
-
-/// A check with its formula.
-#[derive(Drop)]
-pub struct Claim {
-    pub place: CheckPlace,
-    pub formula: Formula,
 }

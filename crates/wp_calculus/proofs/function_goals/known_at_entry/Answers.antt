@@ -1,11 +1,12 @@
-use Rattle.std.proofs.Common.{arith, map, ap, sym, ◌∙◌, ◌++◌, refl}
+use Rattle.std.proofs.Common.{arith, map, ap, sym, ◌∙◌, ◌++◌}
 use Rattle.std.proofs.lemmas.List.{take_all}
+use Rattle.qed_terms.specs.Tree.{var}
 use Rattle.qed_terms.specs.View.{formula_tree}
 use Rattle.core_prog.specs.Tree.{Clause}
 use Rattle.core_prog.specs.View.{view_clause}
-use Rattle.wp_calculus.specs.Goals.{ranges, written_pred, var}
-use Rattle.wp_calculus.proofs.Meanings.{map_after}
-use Rattle.wp_calculus.proofs.Listing.{one_more, required_formula}
+use Rattle.wp_calculus.specs.Formulas.{written_pred}
+use Rattle.wp_calculus.specs.Goals.{ranges}
+use Rattle.wp_calculus.proofs.Growing.{one_more, map_after, required_formula}
 use Rattle.wp_calculus.proofs.function_goals.known_at_entry.Goals as goal
 
 pub loop-clause-preserved : goal.loop-clause-preserved
@@ -20,4 +21,4 @@ returns c =
     let front = ranges c.args.function.now.params in
     c.loop-clause.invariant
     ∙ ap (λ xs. front ++ map required_formula xs) (take_all c.loop-clause.clause-index c.as_slice-clause-items.result.now (omega arith) ∙ c.as_slice-clause-items.ensures)
-    ∙ ap (λ fs. front ++ fs) (sym (map_after (λ (d : Clause). written_pred var d.pred) view_clause required_formula (λ d. refl) clauses))
+    ∙ ap (λ fs. front ++ fs) (sym (map_after (λ (d : Clause). written_pred var d.pred) view_clause clauses))

@@ -1,7 +1,7 @@
 use Rattle.std.proofs.Common.{◌≡◌, ◌++◌, map, take}
 use Rattle.qed_terms.specs.View.{formula_tree}
 use Rattle.wp_calculus.specs.Goals.{ranges}
-use Rattle.wp_calculus.proofs.Listing.{required_formula}
+use Rattle.wp_calculus.proofs.Growing.{required_formula}
 use Rattle.wp_calculus.proofs.function_goals.known_at_entry.Given as goal
 
 -- the ranges, then the `requires` so far

@@ -1,7 +1,7 @@
 use Rattle.std.proofs.Common.{arith, ap, ◌∙◌}
 use Rattle.qed_terms.specs.Tree.{num, at_most}
 use Rattle.wp_calculus.specs.Int.{int_low, int_high}
-use Rattle.wp_calculus.proofs.Listing.{ranges_more}
+use Rattle.wp_calculus.proofs.Growing.{ranges_more}
 use Rattle.wp_calculus.proofs.function_goals.ranges.Goals as goal
 
 pub loop-name-preserved : goal.loop-name-preserved

@@ -1,0 +1,12 @@
+// Copies of the trees. Each equals its source.
+
+mod contracts;
+mod decls;
+mod exprs;
+mod preds;
+mod stmts;
+mod terms;
+mod tokens;
+
+pub use decls::copy_vars;
+pub use terms::copy_terms;

@@ -1,0 +1,10 @@
+pub mod Examples
+pub mod Longest
+pub mod Fronts
+pub mod Alike
+pub mod Names
+pub mod Numerals
+pub mod Quoted
+pub mod Marks
+pub mod Cut
+pub mod Items

@@ -1,0 +1,17 @@
+//! From the bytes of a C file with annotations to its tokens.
+#![tactic(auto)]
+
+mod bytes;
+mod chars;
+mod lexemes;
+mod lexer;
+mod numbers;
+mod piece;
+mod pieces;
+mod place;
+mod rows;
+mod tables;
+#[cfg(test)]
+mod tests;
+
+pub use lexer::lex;

@@ -1,5 +1,7 @@
 -- The answer to a text, from what its parts say.
-use Rattle.std.proofs.Common.{◌≡◌, ℕ, ◌<◌, ◌≤◌, Bool, true, false, List, length, refl, sym, subst, Result, Ok, Err, IfOk}
+use Rattle.std.proofs.Common.{◌≡◌, ℕ, ◌<◌, ◌≤◌, Bool, true, false, List, length, refl, sym, subst, Option, Some, None, Result, Ok, Err, IfOk}
+use Rattle.std.specs.Prelude.{IfSome}
+use Rattle.wp_io.specs.Reads.{TakesMore}
 use Rattle.wp_base.specs.declared.memory.NoMemory.{NoMemory}
 use Rattle.wp_base.specs.declared.answers.Stop.TheVariants as stop
 use Rattle.wp_base.specs.declared.answers.Refusal.{Refusal}
@@ -11,29 +13,38 @@ use Rattle.c_reader.specs.Program.{Spells}
 use Rattle.wp_cli.specs.declared.answer.Answer.{Answer}
 use Rattle.wp_cli.specs.Report.{all_proved, report_text, refusal_line}
 use Rattle.wp_cli.specs.AnswerView.{status_of, ReportAnswers}
+use Rattle.wp_cli.specs.Top.{AnswersFile}
 use Rattle.wp_cli.specs.Answers.{limit, HasFault, too_long, outside, Answers, proved, unknown, refused}
 
 -- a report answers the text that spells the program
-pub report_answers : (text : List ℕ) (p : Program) (result : Status) (bytes : List ℕ) → length text ≤ limit → Spells text p → ReportAnswers p result bytes → Answers text result bytes
-report_answers text p result bytes within spelled a = by (all_proved a.report) refl a.status
+pub report_answers : (shows : Bool) (text : List ℕ) (p : Program) (result : Status) (bytes : List ℕ) → length text ≤ limit → Spells text p → ReportAnswers shows p result bytes → Answers shows text result bytes
+report_answers shows text p result bytes within spelled a = by (all_proved a.report) refl a.status
   where
-    by : (b : Bool) → all_proved a.report ≡ b → result ≡ status_of b → Answers text result bytes
-    by true e s = subst (λ t. Answers text result t) (sym a.text) (subst (λ s. Answers text s (report_text a.report)) (sym s) (proved p a.report within spelled a.judged e))
-    by false e s = subst (λ t. Answers text result t) (sym a.text) (subst (λ s. Answers text s (report_text a.report)) (sym s) (unknown p a.report within spelled a.judged e))
+    by : (b : Bool) → all_proved a.report ≡ b → result ≡ status_of b → Answers shows text result bytes
+    by true e s = subst (λ t. Answers shows text result t) (sym a.text) (subst (λ s. Answers shows text s (report_text a.report)) (sym s) (proved p a.report within spelled a.judged e))
+    by false e s = subst (λ t. Answers shows text result t) (sym a.text) (subst (λ s. Answers shows text s (report_text a.report)) (sym s) (unknown p a.report within spelled a.judged e))
 
-pub report_answers_ok : (text : List ℕ) (p : Program) (r : Result Answer NoMemory) → length text ≤ limit → Spells text p → IfOk r (λ a. ReportAnswers p a.status a.text) → IfOk r (λ a. Answers text a.status a.text)
-report_answers_ok text p (Ok a) within spelled h = report_answers text p a.status a.text within spelled h
-report_answers_ok text p (Err e) within spelled h = tt
+pub report_answers_ok : (shows : Bool) (text : List ℕ) (p : Program) (r : Result Answer NoMemory) → length text ≤ limit → Spells text p → IfOk r (λ a. ReportAnswers shows p a.status a.text) → IfOk r (λ a. Answers shows text a.status a.text)
+report_answers_ok shows text p (Ok a) within spelled h = report_answers shows text p a.status a.text within spelled h
+report_answers_ok shows text p (Err e) within spelled h = tt
 
 -- a refusal answers a text with that fault
-pub refusal_answers : (text : List ℕ) (r : Refusal) (answer : Result Answer NoMemory) → IfOk answer (λ a. a.status ≡ status.Refused) → IfOk answer (λ a. a.text ≡ refusal_line r) → HasFault text r → IfOk answer (λ a. Answers text a.status a.text)
-refusal_answers text r (Ok a) s t fault = subst (λ s. Answers text s a.text) (sym s) (subst (λ t. Answers text status.Refused t) (sym t) (refused r fault))
-refusal_answers text r (Err e) s t fault = tt
+pub refusal_answers : (shows : Bool) (text : List ℕ) (r : Refusal) (answer : Result Answer NoMemory) → IfOk answer (λ a. a.status ≡ status.Refused) → IfOk answer (λ a. a.text ≡ refusal_line r) → HasFault text r → IfOk answer (λ a. Answers shows text a.status a.text)
+refusal_answers shows text r (Ok a) s t fault = subst (λ s. Answers shows text s a.text) (sym s) (subst (λ t. Answers shows text status.Refused t) (sym t) (refused r fault))
+refusal_answers shows text r (Err e) s t fault = tt
 
 pub too_long_answers : (r : Refusal) (answer : Result Answer NoMemory) → r ≡ record { rule = rule.Limit; line = 1 } → IfOk answer (λ a. a.status ≡ status.Refused) → IfOk answer (λ a. a.text ≡ refusal_line r)
-    → IfOk answer (λ a. (text : List ℕ) → limit < length text → Answers text a.status a.text)
-too_long_answers r (Ok a) is s t = λ text more. refusal_answers text r (Ok a) s t (subst (HasFault text) (sym is) (too_long more))
+    → IfOk answer (λ a. (text : List ℕ) → limit < length text → (shows : Bool) → Answers shows text a.status a.text)
+too_long_answers r (Ok a) is s t = λ text more shows. refusal_answers shows text r (Ok a) s t (subst (HasFault text) (sym is) (too_long more))
 too_long_answers r (Err e) is s t = tt
+
+-- a file of which too much was taken is answered as too long
+pub too_long_file : (shows : Bool) (told opened left : Option (List ℕ)) (result : Status) (bytes : List ℕ) → IfSome told (λ text. opened ≡ Some text) → TakesMore opened left limit
+    → ((text : List ℕ) → limit < length text → (shows : Bool) → Answers shows text result bytes) → AnswersFile shows told result bytes
+too_long_file shows None opened left result bytes whole more says = record { text = more.bytes; read = tt; answer = says more.bytes more.more shows }
+too_long_file shows (Some held) opened left result bytes whole more says =
+    let longer : limit < length held = subst (λ (o : Option (List ℕ)). IfSome o (λ text. limit < length text)) whole more.longer in
+    record { text = held; read = refl; answer = says held longer shows }
 
 -- a text that the reader refuses spells no program
 pub no_program : (text : List ℕ) (r : Refusal) → length text ≤ limit → ((p : Program) → Spells text p → stop.Refused r ≡ stop.NoMemory) → r ≡ record { rule = rule.Syntax; line = 1 } → HasFault text r

@@ -1,47 +1,63 @@
--- Verdicts by the normal form.
-use Rattle.std.proofs.Common.{◌≡◌, ℕ, ◌+◌, ◌<◌, List, [], ◌∷◌, ◌++◌, map, take, length, get_or, sym, ap, ◌∙◌, subst}
+-- Verdicts by the normal form, and lists of which each item is so with the one at its place in another.
+use Rattle.std.proofs.Common.{◌≡◌, ℕ, zero, suc, ◌+◌, ◌<◌, Bool, List, [], ◌∷◌, ◌++◌, map, take, length, get_or, Some, refl, sym, ap, ◌∙◌, subst}
+use Rattle.std.specs.Prelude.{slice_get}
 use Rattle.std.proofs.lemmas.List.{take_more, map_push, map-append}
 use Rattle.qed_terms.specs.Tree.{Tree, true_tree}
 use Rattle.qed_simplify.specs.Rules.{step}
 use Rattle.qed_simplify.specs.Normal.{Normal}
 use Rattle.qed_simplify.proofs.Derived.{one_normal}
-use Rattle.core_prog.specs.Tree.{Function, Program}
-use Rattle.wp_calculus.specs.Goals.{Goal, goals}
-use Rattle.wp_cli.specs.Report.{Judged, Reported}
-use Rattle.wp_cli.specs.Answers.{IsVerdict, AreJudged, IsReportOf}
-
-pub normal_true : (goal formula normal : Tree) → formula ≡ goal → Normal step formula normal → normal ≡ true_tree → Normal step goal true_tree
-normal_true goal formula normal same n is = subst (λ t. Normal step t true_tree) same (subst (Normal step formula) is n)
+use Rattle.wp_calculus.specs.View.{PlainGoal, plain}
+use Rattle.wp_calculus.specs.Goals.{Goal}
+use Rattle.wp_cli.specs.Report.{Judged}
+use Rattle.wp_cli.specs.Answers.{IsJudged, EachIsSo, AreJudged}
 
 pub normal_other : (goal formula normal : Tree) → formula ≡ goal → Normal step formula normal → (normal ≡ true_tree → ⊥) → Normal step goal true_tree → ⊥
 normal_other goal formula normal same n not proved = not (one_normal step n (subst (λ t. Normal step t true_tree) (sym same) proved))
 
--- one more goal is judged
-judged_push : (gs : List Goal) (js : List Judged) (g : Goal) (j : Judged) → AreJudged gs js → j.place ≡ g.place → IsVerdict j.verdict g → AreJudged (gs ++ g ∷ []) (js ++ j ∷ [])
-judged_push [] [] g j a p v = (p, v, tt)
-judged_push [] (k ∷ js) g j a p v = absurd a
-judged_push (h ∷ gs) [] g j a p v = absurd a
-judged_push (h ∷ gs) (k ∷ js) g j a p v = (a.0, a.1, judged_push gs js g j a.2 p v)
+-- ---- items at the same place
 
-pub judged_more : {X Y : Type 0} (see : X → Goal) (show : Y → Judged) (items : List X) (done : List Y) (i : ℕ) (x : X) (y : Y) → i < length items → x ≡ get_or items i x
-    → AreJudged (map see (take i items)) (map show done) → (show y).place ≡ (see x).place → IsVerdict (show y).verdict (see x) → AreJudged (map see (take (i + 1) items)) (map show (done ++ y ∷ []))
-judged_more see show items done i x y within is a p v =
-    let front : map see (take (i + 1) items) ≡ map see (take i items) ++ see x ∷ [] =
-    ap (map see) (take_more items i x within ∙ ap (λ z. take i items ++ z ∷ []) (sym is)) ∙ map-append see (take i items) (x ∷ []) in
-    subst (λ js. AreJudged (map see (take (i + 1) items)) js) (sym (map_push show done y))
-    (subst (λ gs. AreJudged gs (map show done ++ show y ∷ [])) (sym front) (judged_push (map see (take i items)) (map show done) (see x) (show y) a p v))
+each_push : {X Y : Type 0} (Is : X → Y → Type 0) (xs : List X) (ys : List Y) (x : X) (y : Y) → EachIsSo Is xs ys → Is x y → EachIsSo Is (xs ++ x ∷ []) (ys ++ y ∷ [])
+each_push Is [] [] x y all one = (one, tt)
+each_push Is [] (b ∷ ys) x y all one = absurd all
+each_push Is (a ∷ xs) [] x y all one = absurd all
+each_push Is (a ∷ xs) (b ∷ ys) x y all one = (all.0, each_push Is xs ys x y all.1 one)
 
--- one more function is reported
-reported_push : (fs : Program) (rs : List Reported) (f : Function) (r : Reported) → IsReportOf fs rs → r.name ≡ f.name → AreJudged (goals f) r.goals → IsReportOf (fs ++ f ∷ []) (rs ++ r ∷ [])
-reported_push [] [] f r a n g = (n, g, tt)
-reported_push [] (s ∷ rs) f r a n g = absurd a
-reported_push (e ∷ fs) [] f r a n g = absurd a
-reported_push (e ∷ fs) (s ∷ rs) f r a n g = (a.0, a.1, reported_push fs rs f r a.2 n g)
+-- one more of those to come is done
+pub each_more : {A B X Y : Type 0} (Is : X → Y → Type 0) (see : A → X) (show : B → Y) (items : List A) (done : List B) (i : ℕ) (a : A) (b : B) → i < length items → a ≡ get_or items i a
+    → EachIsSo Is (map see (take i items)) (map show done) → Is (see a) (show b) → EachIsSo Is (map see (take (i + 1) items)) (map show (done ++ b ∷ []))
+each_more Is see show items done i a b within is all one =
+    let front : map see (take (i + 1) items) ≡ map see (take i items) ++ see a ∷ [] =
+    ap (map see) (take_more items i a within ∙ ap (λ z. take i items ++ z ∷ []) (sym is)) ∙ map-append see (take i items) (a ∷ []) in
+    subst (λ ys. EachIsSo Is (map see (take (i + 1) items)) ys) (sym (map_push show done b))
+    (subst (λ xs. EachIsSo Is xs (map show done ++ show b ∷ [])) (sym front) (each_push Is (map see (take i items)) (map show done) (see a) (show b) all one))
 
-pub reported_more : {X Y : Type 0} (see : X → Function) (show : Y → Reported) (items : List X) (done : List Y) (i : ℕ) (x : X) (y : Y) → i < length items → x ≡ get_or items i x
-    → IsReportOf (map see (take i items)) (map show done) → (show y).name ≡ (see x).name → AreJudged (goals (see x)) (show y).goals → IsReportOf (map see (take (i + 1) items)) (map show (done ++ y ∷ []))
-reported_more see show items done i x y within is a n g =
-    let front : map see (take (i + 1) items) ≡ map see (take i items) ++ see x ∷ [] =
-    ap (map see) (take_more items i x within ∙ ap (λ z. take i items ++ z ∷ []) (sym is)) ∙ map-append see (take i items) (x ∷ []) in
-    subst (λ rs. IsReportOf (map see (take (i + 1) items)) rs) (sym (map_push show done y))
-    (subst (λ fs. IsReportOf fs (map show done ++ show y ∷ [])) (sym front) (reported_push (map see (take i items)) (map show done) (see x) (show y) a n g))
+each_seen : {X Y Z : Type 0} (Is : Z → Y → Type 0) (see : X → Z) (xs : List X) (ys : List Y) → EachIsSo Is (map see xs) ys → EachIsSo (λ x y. Is (see x) y) xs ys
+each_seen Is see [] [] all = tt
+each_seen Is see [] (y ∷ ys) all = absurd all
+each_seen Is see (x ∷ xs) [] all = absurd all
+each_seen Is see (x ∷ xs) (y ∷ ys) all = (all.0, each_seen Is see xs ys all.1)
+
+pub each_at : {X Y : Type 0} (Is : X → Y → Type 0) (xs : List X) (ys : List Y) (i : ℕ) (x : X) (y : Y) → EachIsSo Is xs ys → slice_get xs i ≡ Some x → slice_get ys i ≡ Some y → Is x y
+each_at Is [] ys i x y all m n = absurd cc
+each_at Is (a ∷ xs) [] i x y all m n = absurd all
+each_at Is (a ∷ xs) (b ∷ ys) zero x y all m n =
+    let one : a ≡ x = cc in
+    let two : b ≡ y = cc in
+    subst (λ x. Is x y) one (subst (Is a) two all.0)
+each_at Is (a ∷ xs) (b ∷ ys) (suc i) x y all m n = each_at Is xs ys i x y all.1 m n
+
+-- each has one at its place
+pub partner_at : {X Y : Type 0} (Is : X → Y → Type 0) (xs : List X) (ys : List Y) (i : ℕ) (x : X) → EachIsSo Is xs ys → slice_get xs i ≡ Some x → (y : Y) × (slice_get ys i ≡ Some y)
+partner_at Is [] ys i x all m = absurd cc
+partner_at Is (a ∷ xs) [] i x all m = absurd all
+partner_at Is (a ∷ xs) (b ∷ ys) zero x all m = (b, refl)
+partner_at Is (a ∷ xs) (b ∷ ys) (suc i) x all m = partner_at Is xs ys i x all.1 m
+
+-- ---- goals in memory
+
+-- a goal whose number isn't told
+abbrev pub IsJudgedAs : (shows : Bool) → PlainGoal → Judged → Type 0
+IsJudgedAs shows w j = IsJudged shows w.place w.known w.claim j
+
+pub goals_judged : (shows : Bool) (ws : List PlainGoal) (gs : List Goal) (js : List Judged) → ws ≡ map plain gs → EachIsSo (IsJudgedAs shows) ws js → AreJudged shows gs js
+goals_judged shows ws gs js same all = each_seen (IsJudgedAs shows) plain gs js (subst (λ ws. EachIsSo (IsJudgedAs shows) ws js) same all)

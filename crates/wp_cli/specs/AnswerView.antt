@@ -10,9 +10,9 @@ abbrev pub status_of : Bool → Status
 status_of true = status.AllProved
 status_of false = status.SomeUnknown
 
--- the report of the program, and the status that goes with it
-pub record ReportAnswers (p : Program) (result : Status) (bytes : List ℕ) : Type 0 where
+-- the report of the program, with its goals where they are shown, and the status that goes with it
+pub record ReportAnswers (shows : Bool) (p : Program) (result : Status) (bytes : List ℕ) : Type 0 where
   pub report : List Reported
-  pub judged : IsReportOf p report
+  pub judged : IsReportOf shows p report
   pub status : result ≡ status_of (all_proved report)
   pub text : bytes ≡ report_text report

@@ -1,17 +1,19 @@
 -- What the program answers to a text: its report, or the line that refuses it.
-use Rattle.std.specs.Prelude.{◌≡◌, ℕ, ◌<◌, ◌≤◌, true, false, List, [], ◌∷◌, length}
+use Rattle.std.specs.Prelude.{◌≡◌, ℕ, ◌<◌, ◌≤◌, Bool, true, false, List, [], ◌∷◌, length, Option, Some, None}
 use Rattle.wp_base.specs.declared.answers.Refusal.{Refusal}
 use Rattle.wp_base.specs.declared.answers.Rule.TheVariants as rule
 use Rattle.wp_base.specs.declared.answers.Status.{Status}
 use Rattle.wp_base.specs.declared.answers.Status.TheVariants as status
-use Rattle.qed_terms.specs.Tree.{true_tree}
-use Rattle.core_prog.specs.Tree.{Program}
+use Rattle.qed_terms.specs.declared.verdict.Verdict.{Verdict}
+use Rattle.qed_terms.specs.declared.verdict.Verdict.TheVariants as verdict
+use Rattle.qed_terms.specs.Tree.{Tree, true_tree, goal_of}
+use Rattle.core_prog.specs.Tree.{Function, Program}
 use Rattle.c_reader.specs.Program.{Spells}
 use Rattle.qed_simplify.specs.Rules.{step}
 use Rattle.qed_simplify.specs.Normal.{Normal}
-use Rattle.wp_calculus.specs.Goals.{Goal, goals, formula_of}
-use Rattle.wp_cli.specs.declared.report.Verdict.{Verdict}
-use Rattle.wp_cli.specs.declared.report.Verdict.TheVariants as verdict
+use Rattle.goal_text.specs.Text.{goal_text}
+use Rattle.wp_calculus.specs.Segments.{Place}
+use Rattle.wp_calculus.specs.Goals.{Goal, goals}
 use Rattle.wp_cli.specs.Report.{Judged, Reported, all_proved, report_text, refusal_line}
 
 -- how many bytes a text may have
@@ -20,28 +22,46 @@ limit = 1048576
 
 -- ---- verdicts
 
--- the normal form of the written goal is `true`
-abbrev pub IsProved : Goal → Type 0
-IsProved g = Normal step (formula_of g) true_tree
+-- the normal form of the formula is `true`
+abbrev pub IsProved : Tree → Type 0
+IsProved formula = Normal step formula true_tree
 
--- a goal is called proved exactly where it is
-abbrev pub IsVerdict : Verdict → Goal → Type 0
-IsVerdict verdict.Proved g = IsProved g
-IsVerdict verdict.Open g = IsProved g → ⊥
+-- A goal is called proved exactly where it is, and else unknown for want of more; none is given up for its size or its branches.
+abbrev pub IsVerdict : Verdict → Tree → Type 0
+IsVerdict verdict.Proved formula = IsProved formula
+IsVerdict verdict.Open formula = IsProved formula → ⊥
+IsVerdict verdict.Branches formula = ⊥
+IsVerdict verdict.Size formula = ⊥
+
+-- the text of a goal, where goals are shown
+abbrev pub shown : Bool → (known : List Tree) → (claim : Tree) → Option (List ℕ)
+shown true known claim = Some (goal_text known claim)
+shown false known claim = None
+
+-- of a goal: its check, its verdict and its text
+pub record IsJudged (shows : Bool) (place : Place) (known : List Tree) (claim : Tree) (j : Judged) : Type 0 where
+  pub same_place : j.place ≡ place
+  pub verdict : IsVerdict j.verdict (goal_of known claim)
+  pub text : j.text ≡ shown shows known claim
+
+-- as many items on both sides, and each is so with the one at its place
+abbrev pub EachIsSo : {X Y : Type 0} → (X → Y → Type 0) → List X → List Y → Type 0
+EachIsSo Is [] [] = Unit {0}
+EachIsSo Is [] (y ∷ ys) = ⊥
+EachIsSo Is (x ∷ xs) [] = ⊥
+EachIsSo Is (x ∷ xs) (y ∷ ys) = Is x y × EachIsSo Is xs ys
 
 -- each goal with its verdict, in order
-abbrev pub AreJudged : List Goal → List Judged → Type 0
-AreJudged [] [] = Unit {0}
-AreJudged [] (j ∷ js) = ⊥
-AreJudged (g ∷ gs) [] = ⊥
-AreJudged (g ∷ gs) (j ∷ js) = (j.place ≡ g.place) × IsVerdict j.verdict g × AreJudged gs js
+abbrev pub AreJudged : (shows : Bool) → List Goal → List Judged → Type 0
+AreJudged shows = EachIsSo (λ (g : Goal) (j : Judged). IsJudged shows g.place g.known g.claim j)
+
+pub record IsReported (shows : Bool) (f : Function) (r : Reported) : Type 0 where
+  pub name : r.name ≡ f.name
+  pub goals : AreJudged shows (goals f) r.goals
 
 -- each function's name and goals, in order
-abbrev pub IsReportOf : Program → List Reported → Type 0
-IsReportOf [] [] = Unit {0}
-IsReportOf [] (r ∷ rs) = ⊥
-IsReportOf (f ∷ fs) [] = ⊥
-IsReportOf (f ∷ fs) (r ∷ rs) = (r.name ≡ f.name) × AreJudged (goals f) r.goals × IsReportOf fs rs
+abbrev pub IsReportOf : (shows : Bool) → Program → List Reported → Type 0
+IsReportOf shows = EachIsSo (IsReported shows)
 
 -- ---- faults of a text
 
@@ -52,8 +72,8 @@ pub data HasFault (text : List ℕ) : Refusal → Type 0 where
 
 -- ---- answers
 
--- the status and the bytes that answer a text
-pub data Answers (text : List ℕ) : Status → List ℕ → Type 0 where
-  proved : (p : Program) (rs : List Reported) → length text ≤ limit → Spells text p → IsReportOf p rs → all_proved rs ≡ true → Answers text status.AllProved (report_text rs)
-  unknown : (p : Program) (rs : List Reported) → length text ≤ limit → Spells text p → IsReportOf p rs → all_proved rs ≡ false → Answers text status.SomeUnknown (report_text rs)
-  refused : (r : Refusal) → HasFault text r → Answers text status.Refused (refusal_line r)
+-- the status and the bytes that answer a text, with goals shown or not
+pub data Answers (shows : Bool) (text : List ℕ) : Status → List ℕ → Type 0 where
+  proved : (p : Program) (rs : List Reported) → length text ≤ limit → Spells text p → IsReportOf shows p rs → all_proved rs ≡ true → Answers shows text status.AllProved (report_text rs)
+  unknown : (p : Program) (rs : List Reported) → length text ≤ limit → Spells text p → IsReportOf shows p rs → all_proved rs ≡ false → Answers shows text status.SomeUnknown (report_text rs)
+  refused : (r : Refusal) → HasFault text r → Answers shows text status.Refused (refusal_line r)

@@ -7,7 +7,7 @@ use Rattle.wp_cli.specs.declared.report.Report as memory
 use Rattle.wp_cli.specs.Report.{Judged, Reported}
 
 abbrev pub view_goal : ReportGoal → Judged
-view_goal g = record { place = view_place g.place; verdict = g.verdict }
+view_goal g = record { place = view_place g.place; verdict = g.verdict; text = g.text }
 
 abbrev pub view_function : FunctionReport → Reported
 view_function f = record { name = f.name; goals = map view_goal f.goals }

@@ -1,18 +1,18 @@
 -- What a call of the program leaves, by its status.
-use Rattle.std.specs.Prelude.{◌≡◌, ◌⊎◌, ℕ, ◌≤◌, true, List, length, Option, Some, IfSome, slice_get, option_and_then}
+use Rattle.std.specs.Prelude.{◌≡◌, ◌⊎◌, ℕ, ◌≤◌, Bool, true, List, length, Option, Some, IfSome, slice_get, option_and_then}
 use Rattle.std.specs.Io.KnownBytes.{Appends, IsAtEnd}
 use Rattle.wp_base.specs.declared.answers.Refusal.{Refusal}
 use Rattle.wp_base.specs.declared.answers.Status.{Status}
 use Rattle.wp_base.specs.declared.answers.Status.TheVariants as status
 use Rattle.wp_io.specs.Reads.{TakesMore}
 use Rattle.wp_io.specs.Writes.{TakesFront}
-use Rattle.qed_terms.specs.Meaning.{Valid}
+use Rattle.qed_terms.specs.declared.verdict.Verdict.TheVariants as verdict
+use Rattle.qed_terms.specs.Setting.{Valid}
 use Rattle.core_prog.specs.Tree.{Program, Function}
 use Rattle.c_reader.specs.Program.{Spells}
 use Rattle.wp_calculus.specs.Machine.{IsCorrect}
 use Rattle.wp_calculus.specs.Goals.{Goal, goals, formula_of}
-use Rattle.wp_calculus.specs.Theorems.{IsExact}
-use Rattle.wp_cli.specs.declared.report.Verdict.TheVariants as verdict
+use Rattle.wp_calculus.specs.Theorems.{plain_setting, IsExact}
 use Rattle.wp_cli.specs.Report.{Judged, Reported, goals_proved, report_text}
 use Rattle.wp_cli.specs.Command.{file_named}
 use Rattle.wp_cli.specs.Answers.{limit, Answers, HasFault, IsReportOf}
@@ -51,33 +51,33 @@ ReadsEnough status.SomeUnknown told left = IsAtEnd left
 ReadsEnough status.Refused told left = IsAtEnd left ⊎ TookTooMuch told left
 ReadsEnough _ told left = Unit {0}
 
--- the answer to the text that was read
-pub record AnswersFile (told : Option (List ℕ)) (result : Status) (bytes : List ℕ) : Type 0 where
+-- the answer to the text that was read, with goals shown or not
+pub record AnswersFile (shows : Bool) (told : Option (List ℕ)) (result : Status) (bytes : List ℕ) : Type 0 where
   pub text : List ℕ
   pub read : IsRead told text
-  pub answer : Answers text result bytes
+  pub answer : Answers shows text result bytes
 
 -- it was written whole
-pub record WritesAnswer (told before after : Option (List ℕ)) (result : Status) : Type 0 where
+pub record WritesAnswer (shows : Bool) (told before after : Option (List ℕ)) (result : Status) : Type 0 where
   pub bytes : List ℕ
-  pub answered : AnswersFile told result bytes
+  pub answered : AnswersFile shows told result bytes
   pub written : Appends before after bytes
 
 -- a front of an answer was written, and not the whole
-pub record WritesFront (told before after : Option (List ℕ)) : Type 0 where
+pub record WritesFront (shows : Bool) (told before after : Option (List ℕ)) : Type 0 where
   pub result : Status
   pub bytes : List ℕ
-  pub answered : AnswersFile told result bytes
+  pub answered : AnswersFile shows told result bytes
   pub written : TakesFront before after bytes
 
 -- The report of the program that the text spells was written, and of the program and the report this holds.
-pub record WritesReport (told before after : Option (List ℕ)) (Claim : Program → List Reported → Type 0) : Type 0 where
+pub record WritesReport (shows : Bool) (told before after : Option (List ℕ)) (Claim : Program → List Reported → Type 0) : Type 0 where
   pub text : List ℕ
   pub read : IsRead told text
   pub program : Program
   pub spelled : Spells text program
   pub report : List Reported
-  pub judged : IsReportOf program report
+  pub judged : IsReportOf shows program report
   pub written : Appends before after (report_text report)
   pub claim : Claim program report
 
@@ -86,10 +86,10 @@ pub record WritesReport (told before after : Option (List ℕ)) (Claim : Program
 -- each goal whose line reads proved is valid, whatever the other lines read
 abbrev pub ProvedGoalsAreValid : Program → List Reported → Type 0
 ProvedGoalsAreValid p rs = (i j : ℕ) (f : Function) (r : Reported) (g : Goal) (judged : Judged) → slice_get p i ≡ Some f → slice_get rs i ≡ Some r → slice_get (goals f) j ≡ Some g → slice_get r.goals j ≡ Some judged
-    → judged.verdict ≡ verdict.Proved → Valid (formula_of g)
+    → judged.verdict ≡ verdict.Proved → Valid plain_setting (formula_of g)
 
--- A function of which every goal is called proved is correct: from all arguments that meet its `requires` its run
--- meets no undefined behaviour and returns with its `ensures`.
+-- A function of which every goal is called proved is correct: from all arguments that meet its `requires`, and whatever its locals
+-- hold before they are set, its run meets no undefined behaviour and no failed annotation and returns with its `ensures`.
 abbrev pub ProvedFunctionsAreCorrect : Program → List Reported → Type 0
 ProvedFunctionsAreCorrect p rs = (i : ℕ) (f : Function) (r : Reported) → slice_get p i ≡ Some f → slice_get rs i ≡ Some r → goals_proved r.goals ≡ true → IsCorrect f
 

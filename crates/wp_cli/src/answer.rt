@@ -1,5 +1,5 @@
 // The answer to a text.
-ghost use Rattle.std.specs.Prelude.{◌≡◌, ◌≤◌, ◌<◌, ℕ, List, IfOk, length, map};
+ghost use Rattle.std.specs.Prelude.{◌≡◌, ◌≤◌, ◌<◌, ℕ, Bool, List, IfOk, length, map};
 ghost use Rattle.core_prog.specs.View.{view_program};
 ghost use Rattle.wp_cli.specs.Answers.{Answers, limit};
 ghost use Rattle.wp_cli.specs.AnswerView.{ReportAnswers};
@@ -7,10 +7,11 @@ ghost use Rattle.wp_cli.specs.Report as spec;
 ghost use Rattle.wp_cli.specs.ReportView.{view_function, view_goal};
 
 use crate::refusals::refusal_text;
-use crate::report::{FunctionReport, ReportGoal, Verdict, report_text};
+use crate::report::{FunctionReport, ReportGoal, report_text};
 use crate::verdicts::judge_program;
 use c_reader::read_program;
 use core_prog::Core;
+use qed_terms::Verdict;
 use std::alloc::Global;
 use wp_base::{NoMemory, Refusal, Rule, Status, Stop, Str};
 
@@ -25,7 +26,7 @@ fn goals_proved(goals: &[ReportGoal]) -> bool
     ensures { result ≡ spec.goals_proved (map view_goal goals.now) }
 {
     for goal in goals {
-        if goal.verdict == Verdict::Open {
+        if goal.verdict != Verdict::Proved {
             return false;
         }
     }
@@ -44,11 +45,11 @@ fn all_proved(functions: &[FunctionReport]) -> bool
     true
 }
 
-// The report of a program.
-fn report_answer(alloc: Global, core: &Core) -> Result<Answer, NoMemory>
-    ensures { IfOk result (λ answer. ReportAnswers (view_program core.now) answer.status answer.text) }
+// The report of a program, with its goals where they are to be shown.
+fn report_answer(alloc: Global, core: &Core, shows_goals: bool) -> Result<Answer, NoMemory>
+    ensures { IfOk result (λ answer. ReportAnswers shows_goals (view_program core.now) answer.status answer.text) }
 {
-    let judged = judge_program(alloc, core)?;
+    let judged = judge_program(alloc, core, shows_goals)?;
     let text = report_text(alloc, &judged)?;
     let status = if all_proved(judged.functions.as_slice()) {
         Status::AllProved
@@ -72,7 +73,7 @@ fn refusal_answer(alloc: Global, refusal: Refusal) -> Result<Answer, NoMemory>
 
 /// The answer to a text that is too long.
 pub fn too_long_answer(alloc: Global) -> Result<Answer, NoMemory>
-    ensures answer { IfOk result (λ answer. (text : List ℕ) → limit < length text → Answers text answer.status answer.text) }
+    ensures answer { IfOk result (λ answer. (text : List ℕ) → limit < length text → (shows : Bool) → Answers shows text answer.status answer.text) }
     ensures status { IfOk result (λ answer. answer.status ≡ Status.Refused) }
 {
     refusal_answer(
@@ -84,13 +85,14 @@ pub fn too_long_answer(alloc: Global) -> Result<Answer, NoMemory>
     )
 }
 
-/// The answer to a text: the report of the program that it spells, or the line that refuses it.
-pub fn text_answer(alloc: Global, text: &[u8]) -> Result<Answer, NoMemory>
+/// The answer to a text: the report of the program that it spells, with its goals where they are to be
+/// shown, or the line that refuses it.
+pub fn text_answer(alloc: Global, text: &[u8], shows_goals: bool) -> Result<Answer, NoMemory>
     requires { length text.now ≤ limit }
-    ensures { IfOk result (λ answer. Answers text.now answer.status answer.text) }
+    ensures { IfOk result (λ answer. Answers shows_goals text.now answer.status answer.text) }
 {
     match read_program(alloc, text) {
-        Ok(core) => report_answer(alloc, &core),
+        Ok(core) => report_answer(alloc, &core, shows_goals),
         Err(Stop::Refused(refusal)) => refusal_answer(alloc, refusal),
         Err(Stop::NoMemory) => Err(NoMemory),
     }

@@ -9,5 +9,5 @@ mod top;
 mod verdicts;
 mod words;
 
-pub use report::{FunctionReport, Report, ReportGoal, Verdict, report_text};
+pub use report::{FunctionReport, Report, ReportGoal, report_text};
 pub use top::wp_main;

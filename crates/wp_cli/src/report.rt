@@ -4,24 +4,17 @@ ghost use Rattle.wp_cli.specs.Report as spec;
 ghost use Rattle.wp_cli.specs.ReportView.{view_goal, view_function, view_report};
 
 use crate::pieces::{put, put_number};
+use qed_terms::Verdict;
 use std::alloc::Global;
 use wp_base::{List, NoMemory, Str};
 use wp_calculus::{Check, CheckPlace};
 
-/// What is said of a goal.
-#[derive(Clone, Copy, Debug, PartialEq, Eq)]
-pub enum Verdict {
-    /// Its normal form is `true`.
-    Proved,
-    /// It is not.
-    Open,
-}
-
-/// A goal's check and its verdict.
+/// A goal's check and its verdict, and its text where it is to be shown.
 #[derive(Drop)]
 pub struct ReportGoal {
     pub place: CheckPlace,
     pub verdict: Verdict,
+    pub text: Option<Str>,
 }
 
 /// A function's name and its goals, in order.
@@ -41,7 +34,10 @@ fn check_name(check: Check) -> &'static [u8]
     ensures { result.now ≡ spec.check_name check }
 {
     match check {
+        Check::Init => b"init",
         Check::Overflow => b"overflow",
+        Check::NoReturn => b"noreturn",
+        Check::Assert => b"assert",
         Check::Ensures => b"ensures",
     }
 }
@@ -52,6 +48,8 @@ fn verdict_name(verdict: Verdict) -> &'static [u8]
     match verdict {
         Verdict::Proved => b"proved",
         Verdict::Open => b"unknown open",
+        Verdict::Branches => b"unknown branches",
+        Verdict::Size => b"unknown size",
     }
 }
 
@@ -78,12 +76,26 @@ fn put_goal(
     put(text, b"\n")
 }
 
+// The line of a goal's text, where it is to be shown.
+#[tactic(auto, using(crate::proofs::Lines::text_line_put, crate::proofs::Lines::no_text_put))]
+fn put_text(text: &mut Vec<u8>, shown: &Option<Str>) -> Result<(), NoMemory>
+    ensures { IfOk result (λ _. text.new.items ≡ text.old.items ++ spec.text_line shown.now) }
+{
+    if let Some(goal) = shown {
+        put(text, b"  ")?;
+        put(text, goal.bytes())?;
+        put(text, b"\n")?;
+    }
+    Ok(())
+}
+
 // The lines of a function's goals, numbered from 1.
 fn put_goals(text: &mut Vec<u8>, function: &Str, goals: &[ReportGoal]) -> Result<(), NoMemory>
     ensures { IfOk result (λ _. text.new.items ≡ text.old.items ++ spec.goal_lines function.now 1 (map view_goal goals.now)) }
 {
     for (index, goal) in goals.iter().enumerate() {
         put_goal(text, function, index + 1, goal)?;
+        put_text(text, &goal.text)?;
     }
     Ok(())
 }
@@ -114,7 +126,8 @@ fn put_summary(text: &mut Vec<u8>, goals: u128, proved: u128) -> Result<(), NoMe
     put(text, b"\n")
 }
 
-/// The report as text: a line for each goal, then the summary.
+/// The report as text: a line for each goal, with one for its text below where that is to be shown, then
+/// the summary.
 pub fn report_text(alloc: Global, report: &Report) -> Result<Str, NoMemory>
     ensures { IfOk result (λ text. text ≡ spec.report_text (view_report report.now)) }
 {

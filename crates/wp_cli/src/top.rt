@@ -2,12 +2,12 @@
 ghost use Rattle.std.specs.Prelude.{◌≡◌, ◌↔◌, ◌≤◌, ℕ, List, None, Some, IsTrue, IfOk};
 ghost use Rattle.std.specs.Option.{ForSome};
 ghost use Rattle.wp_io.specs.Faults.{Rose};
-ghost use Rattle.wp_cli.specs.Command.{file_named as named};
+ghost use Rattle.wp_cli.specs.Command.{command_of as command, file_named as named, shows_goals as shows};
 ghost use Rattle.wp_cli.specs.Top.{AnswersFile, GoalsAreExactIn, IsAnsweredBy, OnAnswer, OnReport, ProvedFunctionsAreCorrect, ProvedGoalsAreValid, ReadsEnough, WritesAnswer, WritesFront, WritesReport, told};
 ghost use Rattle.wp_cli.specs.declared.top.Unread.TheVariants as unread;
 
 use crate::answer::{Answer, text_answer, too_long_answer};
-use crate::words::file_named;
+use crate::words::command_of;
 use std::alloc::Global;
 use wp_base::{NoMemory, Status, Str};
 use wp_io::{Failed, Files, ReadEnd, Sink, read_all, write_all};
@@ -38,10 +38,15 @@ impl From<NoMemory> for Unread {
     }
 }
 
-// Reads a file and finds the answer to its text.
-fn file_answer<F: Files>(alloc: Global, files: &mut F, name: &Str) -> Result<Answer, Unread>
+// Reads a file and finds the answer to its text, with its goals where they are to be shown.
+fn file_answer<F: Files>(
+    alloc: Global,
+    files: &mut F,
+    name: &Str,
+    shows_goals: bool,
+) -> Result<Answer, Unread>
     requires { IsTrue (F.may_open files.old name.now) }
-    ensures answer { IfOk result (λ answer. AnswersFile (F.holds files.old name.now) answer.status answer.text) }
+    ensures answer { IfOk result (λ answer. AnswersFile shows_goals (F.holds files.old name.now) answer.status answer.text) }
     ensures read { IfOk result (λ answer. ReadsEnough answer.status (F.holds files.old name.now) (F.left files.new)) }
     ensures fault { result ≡ Err Unread.ReadFault → Rose (F.faults files.old) (F.faults files.new) }
     ensures later { F.faults files.old ≤ F.faults files.new }
@@ -49,7 +54,7 @@ fn file_answer<F: Files>(alloc: Global, files: &mut F, name: &Str) -> Result<Ans
     files.open(name)?;
     match read_all(alloc, files, LIMIT) {
         Ok(text) => {
-            let answer = text_answer(alloc, text.as_slice())?;
+            let answer = text_answer(alloc, text.as_slice(), shows_goals)?;
             Ok(answer)
         }
         Err(ReadEnd::TooLong) => {
@@ -66,7 +71,9 @@ fn file_answer<F: Files>(alloc: Global, files: &mut F, name: &Str) -> Result<Ans
 /// opening and reading, faults of the text, goals, writing. `NoMemory` may stand before any but the
 /// first and the last. It may be called again after any answer.
 ///
-/// A command is one word, the name of the file; it is UTF-8 and doesn't begin with `-`.
+/// A command is `[--goals] [--] FILE`, the options and the file in any order, each at most once: `--`
+/// ends the options, only after it FILE may begin with `-`, and it isn't `-` alone; all words are UTF-8.
+/// Under `--goals` each goal's line in the report is followed by a line of two spaces and its text.
 pub fn wp_main<F: Files, K: Sink>(
     alloc: Global,
     words: &[Str],
@@ -76,7 +83,7 @@ pub fn wp_main<F: Files, K: Sink>(
     requires { ForSome (named words.now) (λ name. IsTrue (F.may_open files.old name)) }
 
     // The words.
-    ensures usage { (result ≡ Status.Usage) ↔ (named words.now ≡ None) }
+    ensures usage { (result ≡ Status.Usage) ↔ (command words.now ≡ None) }
     ensures nothing_opened { result ≡ Status.Usage → files.new ≡ files.old }
     ensures usage_unwritten { result ≡ Status.Usage → out.new ≡ out.old }
 
@@ -84,18 +91,18 @@ pub fn wp_main<F: Files, K: Sink>(
     ensures read { ReadsEnough result (told F.holds files.old words.now) (F.left files.new) }
 
     // What is written is the answer to the text that was read.
-    ensures answered { OnAnswer result (WritesAnswer (told F.holds files.old words.now) (K.taken out.old) (K.taken out.new) result) }
+    ensures answered { OnAnswer result (WritesAnswer (shows words.now) (told F.holds files.old words.now) (K.taken out.old) (K.taken out.new) result) }
 
     // What the report says of the program.
-    ensures proved_goals { OnReport result (WritesReport (told F.holds files.old words.now) (K.taken out.old) (K.taken out.new) ProvedGoalsAreValid) }
-    ensures proved_functions { OnReport result (WritesReport (told F.holds files.old words.now) (K.taken out.old) (K.taken out.new) ProvedFunctionsAreCorrect) }
-    ensures exact_goals { OnReport result (WritesReport (told F.holds files.old words.now) (K.taken out.old) (K.taken out.new) GoalsAreExactIn) }
+    ensures proved_goals { OnReport result (WritesReport (shows words.now) (told F.holds files.old words.now) (K.taken out.old) (K.taken out.new) ProvedGoalsAreValid) }
+    ensures proved_functions { OnReport result (WritesReport (shows words.now) (told F.holds files.old words.now) (K.taken out.old) (K.taken out.new) ProvedFunctionsAreCorrect) }
+    ensures exact_goals { OnReport result (WritesReport (shows words.now) (told F.holds files.old words.now) (K.taken out.old) (K.taken out.new) GoalsAreExactIn) }
 
     // Faults.
     ensures read_fault { result ≡ Status.ReadFault → Rose (F.faults files.old) (F.faults files.new) }
     ensures unread_unwritten { result ≡ Status.ReadFault → out.new ≡ out.old }
     ensures write_fault { result ≡ Status.WriteFault → Rose (K.faults out.old) (K.faults out.new) }
-    ensures front { result ≡ Status.WriteFault → WritesFront (told F.holds files.old words.now) (K.taken out.old) (K.taken out.new) }
+    ensures front { result ≡ Status.WriteFault → WritesFront (shows words.now) (told F.holds files.old words.now) (K.taken out.old) (K.taken out.new) }
     ensures no_memory_unwritten { result ≡ Status.NoMemory → out.new ≡ out.old }
 
     // A command whose file tells its text is answered, unless a fault was counted or memory ran out.
@@ -103,10 +110,10 @@ pub fn wp_main<F: Files, K: Sink>(
         → (Rose (F.faults files.old) (F.faults files.new) → ⊥) → (Rose (K.faults out.old) (K.faults out.new) → ⊥)
         → IsAnsweredBy text result }
 {
-    let Some(name) = file_named(words) else {
+    let Some(command) = command_of(words) else {
         return Status::Usage;
     };
-    let answer = match file_answer(alloc, files, name) {
+    let answer = match file_answer(alloc, files, command.file, command.shows_goals) {
         Ok(answer) => answer,
         Err(Unread::ReadFault) => return Status::ReadFault,
         Err(Unread::NoMemory) => return Status::NoMemory,

@@ -1,48 +1,71 @@
 // Verdicts of goals.
 ghost use Rattle.std.specs.Prelude.{◌≡◌, IfOk, map};
 ghost use Rattle.core_prog.specs.View.{view_function, view_program};
+ghost use Rattle.qed_terms.specs.View.{formula_tree, goal_tree};
 ghost use Rattle.wp_calculus.specs.Goals as calculus;
-ghost use Rattle.wp_calculus.specs.View as goals;
-ghost use Rattle.wp_cli.specs.Answers.{AreJudged, IsReportOf, IsVerdict};
+ghost use Rattle.wp_calculus.specs.View.{view_place};
+ghost use Rattle.wp_cli.specs.Answers.{AreJudged, IsJudged, IsReportOf, IsVerdict, shown};
 ghost use Rattle.wp_cli.specs.ReportView as report;
 
-use crate::report::{FunctionReport, Report, ReportGoal, Verdict};
+use crate::report::{FunctionReport, Report, ReportGoal};
 use core_prog::{Core, Function};
+use goal_text::write_goal;
 use qed_simplify::normal;
+use qed_terms::{Goal, Verdict};
 use std::alloc::Global;
-use wp_base::{List, NoMemory};
+use wp_base::{List, NoMemory, Str};
 use wp_calculus::{NamedGoal, goals};
 
 // Proved exactly where the normal form of the goal is `true`.
-fn judge(alloc: Global, named: &NamedGoal) -> Result<ReportGoal, NoMemory>
-    ensures place { IfOk result (λ judged. (report.view_goal judged).place ≡ (goals.view_goal named.now).place) }
-    ensures verdict { IfOk result (λ judged. IsVerdict judged.verdict (goals.view_goal named.now)) }
+fn verdict_of(alloc: Global, goal: &Goal) -> Result<Verdict, NoMemory>
+    ensures { IfOk result (λ verdict. IsVerdict verdict (goal_tree goal.now)) }
 {
-    let place = named.place;
-    let formula = named.goal.formula(alloc)?;
+    let formula = goal.formula(alloc)?;
     let normal = normal(alloc, &formula)?;
     if normal.is_true() {
-        return Ok(ReportGoal {
-            place,
-            verdict: Verdict::Proved,
-        });
+        return Ok(Verdict::Proved);
     }
+    Ok(Verdict::Open)
+}
+
+// The text of the goal, where goals are to be shown.
+fn text_of(alloc: Global, goal: &Goal, shows_goals: bool) -> Result<Option<Str>, NoMemory>
+    ensures { IfOk result (λ text. text ≡ shown shows_goals (map formula_tree goal.now.known) (formula_tree goal.now.check)) }
+{
+    if shows_goals {
+        return Ok(Some(write_goal(alloc, goal)?));
+    }
+    Ok(None)
+}
+
+// A goal with its verdict, and its text where goals are to be shown.
+fn judge(alloc: Global, named: &NamedGoal, shows_goals: bool) -> Result<ReportGoal, NoMemory>
+    ensures { IfOk result (λ judged. IsJudged shows_goals (view_place named.now.place) (map formula_tree named.now.goal.known) (formula_tree named.now.goal.check) (report.view_goal judged)) }
+{
+    let place = named.place;
+    let verdict = verdict_of(alloc, &named.goal)?;
+    let text = text_of(alloc, &named.goal, shows_goals)?;
     Ok(ReportGoal {
         place,
-        verdict: Verdict::Open,
+        verdict,
+        text,
     })
 }
 
 // The goals of a function with their verdicts.
-fn judge_function(alloc: Global, function: &Function) -> Result<FunctionReport, NoMemory>
+fn judge_function(
+    alloc: Global,
+    function: &Function,
+    shows_goals: bool,
+) -> Result<FunctionReport, NoMemory>
     ensures name { IfOk result (λ judged. judged.name ≡ function.now.name) }
-    ensures goals { IfOk result (λ judged. AreJudged (calculus.goals (view_function function.now)) (map report.view_goal judged.goals)) }
+    ensures goals { IfOk result (λ judged. AreJudged shows_goals (calculus.goals (view_function function.now)) (map report.view_goal judged.goals)) }
 {
     let name = function.name.copy(alloc)?;
     let asked = goals(alloc, function)?;
     let mut judged = List::new(alloc);
     for goal in asked.as_slice() {
-        judged.push(judge(alloc, goal)?)?;
+        judged.push(judge(alloc, goal, shows_goals)?)?;
     }
     Ok(FunctionReport {
         name,
@@ -51,13 +74,13 @@ fn judge_function(alloc: Global, function: &Function) -> Result<FunctionReport, 
 }
 
 /// What is reported of a program: each function's goals, called proved exactly where their normal
-/// form is `true`.
-pub fn judge_program(alloc: Global, core: &Core) -> Result<Report, NoMemory>
-    ensures { IfOk result (λ judged. IsReportOf (view_program core.now) (report.view_report judged)) }
+/// form is `true`, and with their texts where they are to be shown.
+pub fn judge_program(alloc: Global, core: &Core, shows_goals: bool) -> Result<Report, NoMemory>
+    ensures { IfOk result (λ judged. IsReportOf shows_goals (view_program core.now) (report.view_report judged)) }
 {
     let mut functions = List::new(alloc);
     for function in core.functions.as_slice() {
-        functions.push(judge_function(alloc, function)?)?;
+        functions.push(judge_function(alloc, function, shows_goals)?)?;
     }
     Ok(Report { functions })
 }

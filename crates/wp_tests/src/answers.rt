@@ -1,30 +1,37 @@
 // The answers to texts.
 
 use crate::runs::{NAME, ROOM, file, run, sink};
+use crate::texts::{
+    ALWAYS, ALWAYS_GOALS, COMPARED, COMPARED_GOALS, GUARDED, GUARDED_GOALS, ID, ID_GOALS, INC,
+    INC_GOALS, MET, MET_GOALS, PICK, PICK_GOALS, RETURNED, RETURNED_GOALS, UNSET, UNSET_GOALS,
+    without_goals,
+};
 use std::test::Fail;
 use wp_base::{Status, Str};
 use wp_cli::wp_main;
 use wp_io::{StillFiles, StillSink};
 
-pub const ID: &[u8] = b"/*@ ensures \\result == a; */\nint id(int a) { return a; }\n";
-
-pub const ID_REPORT: &[u8] = b"goal id 1 ensures line 1 proved\ngoals 1 proved 1 unknown 0\n";
-
-pub const LEFT: &[u8] =
-    b"/*@ requires a < b; ensures \\result + b == b + a; */ int left(int a, int b) { return a; }";
-
-pub const LEFT_REPORT: &[u8] = b"goal left 1 ensures line 1 proved\ngoals 1 proved 1 unknown 0\n";
+// Texts, their reports under `--goals` and how the run ends.
+const SHOWN: [(&[u8], &[u8], Status); 9] = [
+    (ID, ID_GOALS, Status::AllProved),
+    (INC, INC_GOALS, Status::SomeUnknown),
+    (PICK, PICK_GOALS, Status::SomeUnknown),
+    (GUARDED, GUARDED_GOALS, Status::SomeUnknown),
+    (RETURNED, RETURNED_GOALS, Status::AllProved),
+    (ALWAYS, ALWAYS_GOALS, Status::SomeUnknown),
+    (COMPARED, COMPARED_GOALS, Status::SomeUnknown),
+    (UNSET, UNSET_GOALS, Status::AllProved),
+    (MET, MET_GOALS, Status::SomeUnknown),
+];
 
 // Texts, what is written and how the run ends.
-const ANSWERS: [(&[u8], &[u8], Status); 13] = [
+const ANSWERS: [(&[u8], &[u8], Status); 12] = [
     (b"", b"goals 0 proved 0 unknown 0\n", Status::AllProved),
-    (ID, ID_REPORT, Status::AllProved),
     (
-        b"int inc(int a) { return a + 1; }",
-        b"goal inc 1 overflow line 1 unknown open\ngoals 1 proved 0 unknown 1\n",
-        Status::SomeUnknown,
+        b"/*@ requires a < b; ensures \\result + b == b + a; */ int left(int a, int b) { return a; }",
+        b"goal left 1 ensures line 1 proved\ngoals 1 proved 1 unknown 0\n",
+        Status::AllProved,
     ),
-    (LEFT, LEFT_REPORT, Status::AllProved),
     (
         b"/*@ requires a < 5; ensures \\result < 5; */ int small(int a) { return a; }",
         b"goal small 1 ensures line 1 proved\ngoals 1 proved 1 unknown 0\n",
@@ -53,6 +60,12 @@ const ANSWERS: [(&[u8], &[u8], Status); 13] = [
         b"goal one 1 overflow line 1 unknown open\ngoal two 1 overflow line 1 proved\ngoals 2 proved 1 unknown 1\n",
         Status::SomeUnknown,
     ),
+    // `else` belongs to the nearest `if`, so the end is reached where `a` is 0.
+    (
+        b"int f(int a) {\n  if (a) if (a < 0) return 1; else return 2;\n}",
+        b"goal f 1 noreturn line 3 unknown open\ngoals 1 proved 0 unknown 1\n",
+        Status::SomeUnknown,
+    ),
     (
         b"int f(void) { return 0 }",
         b"refused line 1: 3 syntax\n",
@@ -76,10 +89,29 @@ const ANSWERS: [(&[u8], &[u8], Status); 13] = [
 ];
 
 #[test]
+fn shows_goals(rt: HostRuntime) -> Result<(), Fail> {
+    let alloc = rt.alloc();
+    for (text, shown, status) in SHOWN {
+        let plain = without_goals(alloc, shown)?;
+        let runs: [(&[&[u8]], &[u8]); 2] = [
+            (&[b"--goals", NAME], shown),
+            (&[NAME], plain.as_slice()),
+        ];
+        for (words, written) in runs {
+            let mut files = file(alloc, NAME, text, 64, &[])?;
+            let mut out = sink(alloc, ROOM, 64, &[])?;
+            assert_eq!(rt; run(alloc, words, &mut files, &mut out)?, status);
+            assert_eq!(rt; out.taken.as_slice(), written);
+        }
+    }
+    Ok(())
+}
+
+#[test]
 fn answers_texts(rt: HostRuntime) -> Result<(), Fail> {
     let alloc = rt.alloc();
     for (text, written, status) in ANSWERS {
-        let mut files = file(alloc, text, 64, &[])?;
+        let mut files = file(alloc, NAME, text, 64, &[])?;
         let mut out = sink(alloc, ROOM, 64, &[])?;
         assert_eq!(rt; run(alloc, &[NAME], &mut files, &mut out)?, status);
         assert_eq!(rt; out.taken.as_slice(), written);
@@ -99,7 +131,7 @@ fn takes_texts_up_to_the_limit(rt: HostRuntime) -> Result<(), Fail> {
         ),
         (b"refused line 1: 4 limit\n".as_slice(), Status::Refused),
     ] {
-        let mut files = file(alloc, text.as_slice(), 4096, &[])?;
+        let mut files = file(alloc, NAME, text.as_slice(), 4096, &[])?;
         let mut out = sink(alloc, ROOM, 64, &[])?;
         assert_eq!(rt; run(alloc, &[NAME], &mut files, &mut out)?, status);
         assert_eq!(rt; out.taken.as_slice(), written);
@@ -109,29 +141,16 @@ fn takes_texts_up_to_the_limit(rt: HostRuntime) -> Result<(), Fail> {
 }
 
 #[test]
-fn reports_the_same_by_any_piece(rt: HostRuntime) -> Result<(), Fail> {
-    let alloc = rt.alloc();
-    for piece in [1, 2, 7, 64] {
-        assert!(rt; piece > 0);
-        let mut files = file(alloc, ID, piece, &[])?;
-        let mut out = sink(alloc, ROOM, piece, &[])?;
-        assert_eq!(rt;
-            run(alloc, &[NAME], &mut files, &mut out)?,
-            Status::AllProved
-        );
-        assert_eq!(rt; out.taken.as_slice(), ID_REPORT);
-    }
-    Ok(())
-}
-
-#[test]
 fn runs_over_still_forms(rt: HostRuntime) -> Result<(), Fail> {
     let alloc = rt.alloc();
     let mut files = StillFiles::new(Str::from_bytes(alloc, ID)?);
     let mut out = StillSink::new();
-    let words = [Str::from_bytes(alloc, NAME)?];
+    let words = [
+        Str::from_bytes(alloc, b"--goals")?,
+        Str::from_bytes(alloc, NAME)?,
+    ];
     let status = wp_main(alloc, words.as_slice(), &mut files, &mut out);
     assert_eq!(rt; status, Status::AllProved);
-    assert_eq!(rt; out.given, ID_REPORT.len() as u64);
+    assert_eq!(rt; out.given, ID_GOALS.len() as u64);
     Ok(())
 }

@@ -9,3 +9,7 @@ mod faults;
 mod memory;
 #[cfg(test)]
 mod runs;
+#[cfg(test)]
+mod texts;
+#[cfg(test)]
+mod words;

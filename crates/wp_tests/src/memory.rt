@@ -1,16 +1,16 @@
 // Where memory runs out, nothing is written; else the answer is the right one.
 
-use crate::answers::{ID, ID_REPORT};
 use crate::runs::{NAME, ROOM, file, run, sink};
+use crate::texts::{ID, ID_GOALS};
 use std::alloc::Global;
 use std::test::Fail;
 use wp_base::{NoMemory, Status};
 use wp_io::MemSink;
 
 fn answer(alloc: Global) -> Result<(Status, MemSink), NoMemory> {
-    let mut files = file(alloc, ID, 64, &[])?;
+    let mut files = file(alloc, NAME, ID, 64, &[])?;
     let mut out = sink(alloc, ROOM, 64, &[])?;
-    let status = run(alloc, &[NAME], &mut files, &mut out)?;
+    let status = run(alloc, &[b"--goals", NAME], &mut files, &mut out)?;
     Ok((status, out))
 }
 
@@ -22,7 +22,7 @@ fn answers_or_lacks_memory(rt: HostRuntime) -> Result<(), Fail> {
             assert_eq!(rt; out.calls, 0);
         } else {
             assert_eq!(rt; status, Status::AllProved);
-            assert_eq!(rt; out.taken.as_slice(), ID_REPORT);
+            assert_eq!(rt; out.taken.as_slice(), ID_GOALS);
         }
     }
     Ok(())

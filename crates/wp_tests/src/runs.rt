@@ -23,11 +23,17 @@ fn numbers(alloc: Global, numbers: &[u64]) -> Result<List<u64>, NoMemory> {
     Ok(List::from_vec(Vec::from_slice(alloc, numbers)?))
 }
 
-/// One file, `p.c`, with this text, given by pieces; the calls with these numbers fail.
-pub fn file(alloc: Global, text: &[u8], piece: usize, fail: &[u64]) -> Result<MemFiles, NoMemory>
+/// One file of this name with this text, given by pieces; the calls with these numbers fail.
+pub fn file(
+    alloc: Global,
+    name: &[u8],
+    text: &[u8],
+    piece: usize,
+    fail: &[u64],
+) -> Result<MemFiles, NoMemory>
     requires { 0 < piece }
 {
-    let names = texts(alloc, &[NAME])?;
+    let names = texts(alloc, &[name])?;
     let contents = texts(alloc, &[text])?;
     Ok(MemFiles::new(names, contents, piece, numbers(alloc, fail)?))
 }

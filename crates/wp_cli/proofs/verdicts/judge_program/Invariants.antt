@@ -6,4 +6,4 @@ use Rattle.wp_cli.proofs.verdicts.judge_program.Given as goal
 
 -- the functions so far are reported
 abbrev pub invariant-loop-function : goal.invariant-loop-function
-invariant-loop-function l = IsReportOf (map view_function (take l.function-index l.function-items)) (map report.view_function l.functions)
+invariant-loop-function l = IsReportOf l.fn.shows_goals (map view_function (take l.function-index l.function-items)) (map report.view_function l.functions)

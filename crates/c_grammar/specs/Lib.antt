@@ -1,0 +1,13 @@
+pub mod Tokens
+pub mod Lists
+pub mod Operators
+pub mod Types
+pub mod Exprs
+pub mod Terms
+pub mod Preds
+pub mod Annots
+pub mod Declarators
+pub mod Stmts
+pub mod Decls
+pub mod Reading
+pub mod Views

@@ -1,0 +1,88 @@
+// Tokens at the front of a list.
+ghost use Rattle.std.specs.Prelude.{◌≡◌};
+ghost use Rattle.c_grammar.specs.Reading as spec;
+ghost use Rattle.c_grammar.specs.Tokens.{is_type as is_typedef_name};
+ghost use Rattle.c_grammar.specs.Views.{Finds, Gives};
+
+use crate::fault::Fault;
+use c_syntax::{Punct, Token, TokenKind, Word};
+use std::alloc::Global;
+use wp_base::{Line, Str};
+
+/// The line of this punctuator and the tokens after it, if it comes first.
+pub fn punct_at(punct: Punct, tokens: &[Token]) -> Option<(Line, &[Token])>
+    ensures { Finds (λ x. x) result (spec.punct_at punct tokens.now) }
+{
+    let (first, rest) = tokens.split_first()?;
+    match first.kind {
+        TokenKind::Punct(found) if found == punct => Some((first.line, rest)),
+        _ => None,
+    }
+}
+
+/// The line of this punctuator, which has to come first, and the tokens after it.
+pub fn expect(punct: Punct, tokens: &[Token]) -> Result<(Line, &[Token]), Fault>
+    ensures { Gives (λ x. x) result (spec.punct_at punct tokens.now) }
+{
+    match punct_at(punct, tokens) {
+        Some(found) => Ok(found),
+        None => Err(Fault::Syntax),
+    }
+}
+
+/// The line of this word and the tokens after it, if it comes first.
+pub fn word_at(word: Word, tokens: &[Token]) -> Option<(Line, &[Token])>
+    ensures { Finds (λ x. x) result (spec.word_at word tokens.now) }
+{
+    let (first, rest) = tokens.split_first()?;
+    match first.kind {
+        TokenKind::Word(found) if found == word => Some((first.line, rest)),
+        _ => None,
+    }
+}
+
+/// The line of a name with this text and the tokens after it, if it comes first.
+pub fn keyword_at<'a>(text: &[u8], tokens: &'a [Token]) -> Option<(Line, &'a [Token])>
+    ensures { Finds (λ x. x) result (spec.keyword_at text.now tokens.now) }
+{
+    let (first, rest) = tokens.split_first()?;
+    match &first.kind {
+        TokenKind::Name(name) if name.bytes() == text => Some((first.line, rest)),
+        _ => None,
+    }
+}
+
+/// Whether a typedef declared the name.
+pub fn is_type(types: &[Str], name: &Str) -> bool
+    ensures { result ≡ is_typedef_name types.now name.now }
+{
+    types.iter().any(|found| found.bytes() == name.bytes())
+}
+
+/// A name, with its line.
+pub fn name_at(alloc: Global, tokens: &[Token]) -> Result<((Str, Line), &[Token]), Fault>
+    ensures { Gives (λ x. x) result (spec.name_at tokens.now) }
+{
+    let Some((first, rest)) = tokens.split_first() else {
+        return Err(Fault::Syntax);
+    };
+    match &first.kind {
+        TokenKind::Name(name) => Ok(((name.copy(alloc)?, first.line), rest)),
+        _ => Err(Fault::Syntax),
+    }
+}
+
+/// A name that no typedef declared, with its line.
+pub fn new_name_at<'a>(
+    alloc: Global,
+    types: &[Str],
+    tokens: &'a [Token],
+) -> Result<((Str, Line), &'a [Token]), Fault>
+    ensures { Gives (λ x. x) result (spec.new_name_at types.now tokens.now) }
+{
+    let ((name, line), rest) = name_at(alloc, tokens)?;
+    if is_type(types, &name) {
+        return Err(Fault::Syntax);
+    }
+    Ok(((name, line), rest))
+}

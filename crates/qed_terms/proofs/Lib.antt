@@ -12,3 +12,4 @@ pub mod Colons
 pub mod FreeNames
 pub mod RowLaws
 pub mod Kept
+pub mod Division

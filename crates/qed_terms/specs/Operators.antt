@@ -1,6 +1,6 @@
 -- The operators on integers of any size. Division is that of C (C11 6.5.5p6), the bit operators are on two's complement integers
 -- without end (C11 6.5.3.3, 6.5.7, 6.5.10 to 6.5.12).
-use Rattle.std.specs.Prelude.{ℕ, zero, suc, ◌^◌, Bool, true, false, if◌then◌else◌, ℤ, pos, negsuc, ◌+ℤ◌, ◌-ℤ◌, ◌*ℤ◌, int_div, int_rem, List, [], ◌∷◌}
+use Rattle.std.specs.Prelude.{◌≡◌, ◌<◌, unsigned_abs, neg_ℤ, ℕ, zero, suc, ◌^◌, Bool, true, false, if◌then◌else◌, ℤ, pos, negsuc, ◌+ℤ◌, ◌-ℤ◌, ◌*ℤ◌, int_div, int_rem, List, [], ◌∷◌}
 use Rattle.std.specs.Int.Bits.{bit_and, bit_or, bit_xor}
 use Rattle.wp_base.specs.Kinds.{floor_div}
 use Rattle.qed_terms.specs.Memory.{to_nat}
@@ -27,6 +27,21 @@ quotient a b = if is_zero b then pos 0 else int_div a b
 
 abbrev pub remainder : (a b : ℤ) → ℤ
 remainder a b = if is_zero b then pos 0 else int_rem a b
+
+-- a number from 0 up for one from 0 up, a number from 0 down for a negative one
+abbrev pub HasSignOf : (a r : ℤ) → Type 0
+HasSignOf (pos n) r = (m : ℕ) × (r ≡ pos m)
+HasSignOf (negsuc n) r = (m : ℕ) × (r ≡ neg_ℤ (pos m))
+
+-- Of a division by another number than 0: quotient times divisor and the remainder make the dividend, the remainder is smaller than the
+-- divisor, and has the sign of the dividend (C11 6.5.5p6).
+pub record Divides (a b : ℤ) : Type 0 where
+  pub whole : quotient a b *ℤ b +ℤ remainder a b ≡ a
+  pub smaller : unsigned_abs (remainder a b) < unsigned_abs b
+  pub sign : HasSignOf a (remainder a b)
+
+abbrev pub DivisionTruncates : Type 0
+DivisionTruncates = (a b : ℤ) → is_zero b ≡ false → Divides a b
 
 -- a times 2^n, and a divided by 2^n and rounded down; a negative n counts as 0
 abbrev pub shifted_left : (a n : ℤ) → ℤ

@@ -1,7 +1,14 @@
 // Laws of the definitions, each the contract of a function that does nothing.
 ghost use Rattle.qed_terms.specs.Free.{MeaningOfFreeNames};
 ghost use Rattle.qed_terms.specs.Fresh.{FreshNamesAreNew, FreshNamesDiffer};
+ghost use Rattle.qed_terms.specs.Operators.{DivisionTruncates};
 ghost use Rattle.qed_terms.specs.Order.{OrderIsTotal};
+
+/// Division rounds towards 0, and the remainder has the sign of the dividend (C11 6.5.5p6).
+#[tactic(auto, using(crate::proofs::Division::division_truncates))]
+pub fn division_truncates()
+    ensures { DivisionTruncates }
+{}
 
 /// The order of terms is total, and two terms that tie are one term.
 #[tactic(auto, using(crate::proofs::Total::order_is_total))]

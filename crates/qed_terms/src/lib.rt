@@ -22,7 +22,9 @@ pub use copies::{copy_formulas, copy_terms};
 pub use fresh::Fresh;
 pub use head::{FormOp, Head, Shape, Sort, TermOp};
 pub use intern::{intern_formula, intern_term};
-pub use laws::{fresh_names_are_new, fresh_names_differ, meaning_of_free_names, order_is_total};
+pub use laws::{
+    division_truncates, fresh_names_are_new, fresh_names_differ, meaning_of_free_names, order_is_total,
+};
 pub use setting::{LogicFn, Setting};
 pub use store::TermStore;
 pub use term::{Formula, Goal, Term};

@@ -121,7 +121,7 @@ pub data SpellsDecl (types : Names) (at : ℕ) : List Token → List d.Decl → 
       → SpellsDecl types at (word w.Enum line ∷ rest) (d.enum_decl (record { name = None; items = vs; line = line }) ∷ []) types []
   typedef_of : (line line' : ℕ) {first second all : List Token} {t : e.CType} {v : e.VarDecl} {after : Names}
       → SpellsType types first t → SpellsDeclarator types most_open t second v
-      → all ≡ word w.Typedef line ∷ (first ++ (second ++ punct p.Semicolon line' ∷ [])) → after ≡ v.name ∷ types
+      → all ≡ word w.Typedef line ∷ (first ++ (second ++ punct p.Semicolon line' ∷ [])) → after ≡ types ++ v.name ∷ []
       → SpellsDecl types at all (d.typedef_decl v ∷ []) after []
   globals : {first second all : List Token} {vs : List e.VarDecl}
       → SpellsLinkage first → SpellsVariables types most_open second vs

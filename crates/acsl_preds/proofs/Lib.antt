@@ -1,0 +1,13 @@
+pub mod Binding
+pub mod Reading
+pub mod Ends
+pub mod Below
+pub mod Trailing
+pub mod BindersSound
+pub mod Sound
+pub mod Forms
+pub mod Neutral
+pub mod BindersComplete
+pub mod Complete
+pub mod CompleteForms
+pub mod Laws

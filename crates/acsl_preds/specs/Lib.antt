@@ -1,0 +1,4 @@
+pub mod Next
+pub mod Binders
+pub mod Read
+pub mod Views

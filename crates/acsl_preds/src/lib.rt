@@ -1,0 +1,15 @@
+//! Reads predicates of annotations, and the types and names that annotations declare.
+#![tactic(auto)]
+
+mod atoms;
+mod binders;
+mod chains;
+mod next;
+mod preds;
+#[cfg(test)]
+mod tests;
+mod trees;
+
+pub use binders::{logic_type_at, typed_at};
+pub use next::ends_pred;
+pub use preds::pred_at;

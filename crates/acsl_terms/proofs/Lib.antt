@@ -1,0 +1,10 @@
+pub mod Skipping
+pub mod Reading
+pub mod Sound
+pub mod Neutral
+pub mod First
+pub mod Complete
+pub mod Ends
+pub mod Begins
+pub mod Ranging
+pub mod Laws

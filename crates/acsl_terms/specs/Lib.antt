@@ -1,0 +1,4 @@
+pub mod Read
+pub mod Next
+pub mod Views
+pub mod Sets

@@ -1,0 +1,8 @@
+pub mod Reading
+pub mod ItemLaws
+pub mod Parts
+pub mod Sound
+pub mod Complete
+pub mod SoundMembers
+pub mod CompleteMembers
+pub mod Laws

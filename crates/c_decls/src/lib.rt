@@ -1,0 +1,14 @@
+//! Reads declarations: declarators, variables, parameters, fields and enumerators.
+#![tactic(auto)]
+
+mod declarators;
+mod decls;
+mod enums;
+mod fields;
+mod params;
+#[cfg(test)]
+mod tests;
+
+pub use decls::{
+    declarator_at, enumerators_at, fields_at, linkage_at, params_at, variables_after, variables_at,
+};

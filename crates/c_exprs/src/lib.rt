@@ -1,0 +1,11 @@
+//! Reads expressions: equal to a reader on token lists that is proved against the grammar in both directions.
+#![tactic(auto)]
+
+mod exprs;
+mod operators;
+mod read;
+#[cfg(test)]
+mod tests;
+mod trees;
+
+pub use read::{cond_at, expr_at};

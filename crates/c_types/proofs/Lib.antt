@@ -1,0 +1,7 @@
+pub mod Words
+pub mod Reading
+pub mod Tokens
+pub mod Sound
+pub mod Complete
+pub mod Clauses
+pub mod Laws

@@ -1,0 +1,9 @@
+//! Reads the types of C: specifiers, pointers and names of types.
+#![tactic(auto)]
+
+mod kinds;
+#[cfg(test)]
+mod tests;
+mod types;
+
+pub use types::{stars_at, starts_type, type_at, type_name_at};

@@ -1,5 +1,5 @@
 -- What predicates use of terms: their readers read exactly what is spelled.
-use Rattle.std.proofs.Common.{◌≡◌, ℕ, ◌≤◌, refl, arith, Bool, true, false, List, ◌∷◌, ◌++◌, Some}
+use Rattle.std.proofs.Common.{◌≡◌, ℕ, refl, arith, Bool, true, false, List, ◌∷◌, ◌++◌, Some}
 use Rattle.c_syntax.specs.declared.token.Token.{Token}
 use Rattle.c_syntax.specs.declared.token.Punct.TheVariants as p
 use Rattle.c_syntax.specs.Term as t
@@ -9,7 +9,7 @@ use Rattle.c_grammar.specs.Terms.{anywhere, in_chain, SpellsTerm, SpellsTermBina
 use Rattle.c_grammar.specs.Reading.{Reader, past}
 use Rattle.c_grammar.proofs.Readers.{Sound}
 use Rattle.c_types.specs.Read.{starts_type}
-use Rattle.acsl_terms.specs.Next.{begins_chain, ends_term, ends_terms, ends_chain_term, continues, comma_next}
+use Rattle.acsl_terms.specs.Next.{begins_chain, ends_term, ends_terms, ends_chain_term, continues}
 use Rattle.acsl_terms.specs.Read.{term_at, chain_term_at, some_terms_at, pointer_at}
 use Rattle.acsl_terms.proofs.Laws as law
 use Rattle.acsl_terms.proofs.First.{binary_first}

@@ -1,5 +1,5 @@
 -- What is spelled as a type and a name, or as binders, is read as that.
-use Rattle.std.proofs.Common.{◌≡◌, ℕ, zero, suc, ◌≤◌, ◌<◌, Bool, true, false, cond, List, [], ◌∷◌, ◌++◌, length, codes, Option, Some, None, refl, sym, ap, ◌∙◌, subst, arith, append_assoc, length-append}
+use Rattle.std.proofs.Common.{◌≡◌, ℕ, zero, suc, ◌≤◌, Bool, true, false, cond, List, [], ◌∷◌, ◌++◌, length, codes, Some, None, refl, sym, ap, ◌∙◌, subst, arith, append_assoc, length-append}
 use Rattle.std.specs.Prelude.{◌||◌}
 use Rattle.std.specs.Str.{bytes_eq}
 use Rattle.c_syntax.specs.declared.token.Token.{Token}
@@ -7,15 +7,15 @@ use Rattle.c_syntax.specs.declared.token.TokenKind.{TokenKind}
 use Rattle.c_syntax.specs.declared.token.TokenKind.TheVariants as k
 use Rattle.c_syntax.specs.declared.token.Punct.TheVariants as p
 use Rattle.c_syntax.specs.Expr as e
-use Rattle.c_grammar.specs.Tokens.{Names, is_type, token, punct, name}
+use Rattle.c_grammar.specs.Tokens.{Names, is_type, punct, name}
 use Rattle.c_grammar.specs.Preds as g
 use Rattle.c_grammar.specs.Preds.{without_integer, SpellsLogicType, SpellsTyped, SpellsMoreBinders, SpellsBinders, declared}
-use Rattle.c_grammar.specs.Reading.{Reader, ◌>>=◌, punct_at, keyword_at, keyword_by, new_name_at, unless_type}
-use Rattle.c_types.specs.Read.{starts_type, kind_starts, type_name_at, ends_type_name}
+use Rattle.c_grammar.specs.Reading.{keyword_at, keyword_by}
+use Rattle.c_types.specs.Read.{starts_type, kind_starts, ends_type_name}
 use Rattle.c_types.proofs.Laws.{type_name_complete, type_name_starts}
 use Rattle.acsl_preds.specs.Next.{with_items}
 use Rattle.acsl_preds.proofs.BindersSound.{bytes_same}
-use Rattle.acsl_preds.specs.Binders.{logic_type_by, logic_type_at, declared_at, typed_at, name_comes, type_comes, type_comes_by, binder_at, comma_binders, more_binders, binders_from, binders_at}
+use Rattle.acsl_preds.specs.Binders.{logic_type_at, declared_at, typed_at, name_comes, type_comes, type_comes_by, binder_at, more_binders, binders_at}
 
 abbrev integer : List ℕ
 integer = codes "integer"

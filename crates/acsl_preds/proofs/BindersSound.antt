@@ -1,5 +1,5 @@
 -- What the readers of types and binders read is spelled so.
-use Rattle.std.proofs.Common.{◌≡◌, ℕ, zero, suc, Bool, true, false, cond, List, [], ◌∷◌, ◌++◌, length, codes, Option, Some, None, refl, sym, ap, ◌∙◌, subst, append_assoc, append-nil}
+use Rattle.std.proofs.Common.{◌≡◌, ℕ, zero, suc, true, false, cond, List, [], ◌∷◌, ◌++◌, length, codes, Option, Some, None, refl, sym, ap, ◌∙◌, subst, append_assoc}
 use Rattle.std.specs.Str.{bytes_eq}
 use Rattle.std.proofs.lemmas.Slice.Eq.{bytes_eq-Decides}
 use Rattle.c_syntax.specs.declared.token.Token.{Token}
@@ -10,9 +10,8 @@ use Rattle.c_syntax.specs.Expr as e
 use Rattle.c_grammar.specs.Tokens.{Names, is_type, token, punct, name}
 use Rattle.c_grammar.specs.Preds as g
 use Rattle.c_grammar.specs.Preds.{without_integer, SpellsLogicType, SpellsTyped, SpellsMoreBinders, SpellsBinders, declared}
-use Rattle.c_grammar.specs.Reading.{Reader, ◌>>=◌, punct_at, keyword_at, keyword_by, new_name_at}
+use Rattle.c_grammar.specs.Reading.{punct_at, keyword_at, keyword_by, new_name_at}
 use Rattle.c_grammar.proofs.Readers.{Took, Sound, bind_ok, guard_ok, got, pair_is}
-use Rattle.c_types.specs.Read.{type_name_at}
 use Rattle.c_types.proofs.Tokens.{punct_is, new_name_is}
 use Rattle.c_types.proofs.Laws.{type_name_sound}
 use Rattle.acsl_preds.specs.Next.{with_items}

@@ -1,21 +1,17 @@
 -- The equations of the readers of types and binders.
-use Rattle.std.proofs.Common.{◌≡◌, ℕ, zero, suc, ◌+◌, ◌-◌, ◌≤◌, Bool, true, false, cond, List, [], ◌∷◌, ◌++◌, length, Option, Some, None, Err, map, codes, refl, sym, ap, ◌∙◌, add-one, arith, append_assoc, append-nil}
+use Rattle.std.proofs.Common.{◌≡◌, ℕ, zero, suc, ◌+◌, true, false, cond, List, [], ◌∷◌, ◌++◌, Option, Some, None, Err, codes, refl, sym, ap, ◌∙◌, add-one, append_assoc, append-nil}
 use Rattle.std.specs.Str.{bytes_eq}
-use Rattle.std.proofs.lemmas.List.{map_push}
 use Rattle.c_syntax.specs.declared.token.Token.{Token}
 use Rattle.c_syntax.specs.declared.token.Punct.TheVariants as p
-use Rattle.c_syntax.specs.declared.expr.CType.{CType}
-use Rattle.c_syntax.specs.declared.decl.VarDecl.{VarDecl}
 use Rattle.c_syntax.specs.Expr as e
-use Rattle.c_syntax.specs.View.{view_ctype, view_var}
 use Rattle.c_grammar.specs.declared.fault.Fault.{Fault}
 use Rattle.c_grammar.specs.declared.fault.Fault.TheVariants.{Syntax, NoMemory}
 use Rattle.c_grammar.specs.Tokens.{Names, is_type}
 use Rattle.c_grammar.specs.Preds.{without_integer}
-use Rattle.c_grammar.specs.Reading.{Reader, ◌>>=◌, punct_at}
+use Rattle.c_grammar.specs.Reading.{◌>>=◌, punct_at}
 use Rattle.c_grammar.specs.Views.{Gives}
 use Rattle.acsl_preds.specs.Next.{with_items}
-use Rattle.acsl_preds.specs.Binders.{binder_at, comma_binders, more_binders}
+use Rattle.acsl_preds.specs.Binders.{binder_at, more_binders}
 
 -- where no typedef has the name, none is left out
 pub without_none : (types : Names) → is_type types (codes "integer") ≡ false → without_integer types ≡ types

@@ -1,28 +1,24 @@
 -- What is spelled as an atom is read as that atom.
-use Rattle.std.proofs.Common.{◌≡◌, ℕ, zero, suc, ◌-◌, ◌≤◌, ◌<◌, Bool, true, false, cond, eqb, List, [], ◌∷◌, ◌++◌, length, Option, Some, None, refl, sym, ap, ◌∙◌, subst, arith, append_assoc, append-nil, length-append}
+use Rattle.std.proofs.Common.{◌≡◌, ℕ, zero, suc, ◌-◌, ◌≤◌, ◌<◌, Bool, true, false, eqb, List, [], ◌∷◌, ◌++◌, length, Some, None, refl, ap, ◌∙◌, subst, arith, append_assoc, length-append}
 use Rattle.std.proofs.lemmas.Bool.Decides.{nat_tests}
 use Rattle.c_syntax.specs.declared.token.Token.{Token}
-use Rattle.c_syntax.specs.declared.token.TokenKind.{TokenKind}
-use Rattle.c_syntax.specs.declared.token.TokenKind.TheVariants as k
-use Rattle.c_syntax.specs.declared.token.Punct.{Punct}
 use Rattle.c_syntax.specs.declared.token.Punct.TheVariants as p
 use Rattle.c_syntax.specs.declared.token.Word.TheVariants as w
 use Rattle.c_syntax.specs.declared.expr.BinOp.{BinOp}
-use Rattle.c_syntax.specs.Expr as e
 use Rattle.c_syntax.specs.Term as t
 use Rattle.c_syntax.specs.Pred as r
-use Rattle.c_grammar.specs.Tokens.{Names, is_type, token, punct, word, name}
-use Rattle.c_grammar.specs.Operators.{comparison_of, is_chain, shift_level}
+use Rattle.c_grammar.specs.Tokens.{Names, is_type, punct, word, name}
+use Rattle.c_grammar.specs.Operators.{is_chain}
 use Rattle.c_grammar.specs.Lists.{Separated}
 use Rattle.c_grammar.specs.Lists as lists
-use Rattle.c_grammar.specs.Terms.{anywhere, in_chain, SpellsTerm, SpellsTermBinary, SpellsSomeTerms, SpellsPointer}
+use Rattle.c_grammar.specs.Terms.{anywhere, SpellsSomeTerms, SpellsPointer}
 use Rattle.c_grammar.specs.Preds as g
 use Rattle.c_grammar.specs.Preds.{SpellsChain, SpellsPointers, SpellsAtom}
-use Rattle.c_grammar.specs.Reading.{Reader, ◌>>=◌, punct_at, past, unless_type}
+use Rattle.c_grammar.specs.Reading.{Reader, punct_at, past}
 use Rattle.c_types.specs.Read.{starts_type}
-use Rattle.acsl_terms.specs.Next.{begins_chain, begins_chain_by, continues, continues_behind, ends_term, ends_chain_term}
-use Rattle.acsl_terms.specs.Read.{term_at, chain_term_at, some_terms_at, pointer_at}
-use Rattle.acsl_preds.specs.Read.{ends_atom, ends_pred, comparison_at, with_items, with_tail, Tail, tail_at, tail_from, chained, chain_at, more_items, pointers_from, pointers_at, seen_as, named_by, named, closed, atom_at, Form, under, enclosed, bracketed}
+use Rattle.acsl_terms.specs.Next.{begins_chain, continues_behind, ends_term}
+use Rattle.acsl_terms.specs.Read.{chain_term_at, some_terms_at, pointer_at}
+use Rattle.acsl_preds.specs.Read.{ends_atom, comparison_at, with_items, with_tail, tail_at, chain_at, more_items, pointers_at, seen_as, named_by, named, closed, atom_at, under, enclosed, bracketed}
 use Rattle.acsl_preds.proofs.Ends.{comparison_ends, comparison_continues, comparison_takes, no_comparison, chain_may_end, not_continued, atom_stops}
 use Rattle.acsl_preds.proofs.Below.{Below, Complete}
 use Rattle.acsl_preds.proofs.Neutral.{Neutral, NoType}

@@ -1,29 +1,26 @@
 -- What is spelled as a predicate is read as that predicate.
-use Rattle.std.proofs.Common.{◌≡◌, ℕ, zero, suc, ◌-◌, ◌≤◌, ◌<◌, Bool, true, false, cond, eqb, List, [], ◌∷◌, ◌++◌, length, Option, Some, None, refl, sym, ap, ◌∙◌, subst, arith, append_assoc, append-nil, length-append}
+use Rattle.std.proofs.Common.{◌≡◌, ℕ, zero, suc, ◌-◌, ◌≤◌, Bool, true, false, eqb, List, [], ◌∷◌, ◌++◌, length, Some, None, refl, sym, ap, ◌∙◌, subst, arith, append_assoc, length-append}
 use Rattle.std.proofs.lemmas.Bool.Decides.{nat_tests}
 use Rattle.c_syntax.specs.declared.token.Token.{Token}
 use Rattle.c_syntax.specs.declared.token.TokenKind.{TokenKind}
 use Rattle.c_syntax.specs.declared.token.TokenKind.TheVariants as k
-use Rattle.c_syntax.specs.declared.token.Punct.{Punct}
 use Rattle.c_syntax.specs.declared.token.Punct.TheVariants as p
 use Rattle.c_syntax.specs.declared.token.Word.TheVariants as w
 use Rattle.c_syntax.specs.Expr as e
 use Rattle.c_syntax.specs.Term as t
 use Rattle.c_syntax.specs.Pred as r
-use Rattle.c_grammar.specs.Tokens.{Names, is_type, token, punct, word, name}
-use Rattle.c_grammar.specs.Operators.{Connective}
+use Rattle.c_grammar.specs.Tokens.{Names, is_type, punct, word, name}
 use Rattle.c_grammar.specs.Terms.{anywhere, SpellsTerm}
 use Rattle.c_grammar.specs.Preds as g
 use Rattle.c_grammar.specs.Preds.{SpellsBinders, SpellsAtom, SpellsOperand, SpellsJoined, SpellsImplied, SpellsIff, SpellsPred, connected}
-use Rattle.c_grammar.specs.Reading.{Reader, ◌>>=◌, punct_at, levels}
+use Rattle.c_grammar.specs.Reading.{Reader, punct_at}
 use Rattle.c_grammar.proofs.Levels.{Ends, Reads, reads_all, looser_to, flat}
 use Rattle.acsl_terms.specs.Next.{begins_chain, begins_chain_by}
-use Rattle.acsl_terms.specs.Read.{term_at}
 use Rattle.acsl_preds.specs.Next.{ends_atom, ends_pred, connective_at}
-use Rattle.acsl_preds.specs.Read.{seen_as, atom_at, Form, an_operand, an_implied, a_whole, under, body_at, bound_at, value_at, quantified, let_at, operand_by, operand_over, joined_over, implies_by, implied_over, iff_at, iff_of, iff_over, arms_at, cond_by, whole_over, form_at, pred_at, below_at, go_at, binders_at}
+use Rattle.acsl_preds.specs.Read.{seen_as, atom_at, Form, an_operand, an_implied, a_whole, quantified, let_at, operand_by, operand_over, joined_over, implied_over, iff_at, iff_of, iff_over, whole_over, form_at, below_at, go_at}
 use Rattle.acsl_preds.proofs.Ends.{atom_may_end, no_connective, pred_stops, connective_ends, connective_takes, connective_skips}
 use Rattle.acsl_preds.proofs.Below.{Below}
-use Rattle.acsl_preds.proofs.Neutral.{Neutral, pred_neutral, pred_no_type}
+use Rattle.acsl_preds.proofs.Neutral.{pred_neutral, pred_no_type}
 use Rattle.acsl_preds.proofs.Reading.{operand_is, implied_is, whole_is, under_is}
 use Rattle.acsl_preds.proofs.Trailing.{reads_joined}
 use Rattle.acsl_preds.proofs.BindersComplete.{binders_complete}

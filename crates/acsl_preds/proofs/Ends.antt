@@ -1,5 +1,5 @@
 -- What comes next, and what readers of single tokens took.
-use Rattle.std.proofs.Common.{◌≡◌, ℕ, zero, suc, ◌≤◌, Bool, true, false, cond, eqb, List, [], ◌∷◌, ◌++◌, length, Option, Some, None, refl, sym, ap, ◌∙◌, subst, arith}
+use Rattle.std.proofs.Common.{◌≡◌, ℕ, suc, ◌≤◌, Bool, true, false, cond, eqb, List, [], ◌∷◌, Option, Some, None, refl, sym, ap, ◌∙◌, arith}
 use Rattle.std.proofs.lemmas.Bool.Decides.{Decides-eqb, nat_tests}
 use denote.Enum.Bare.{sameb, same_true}
 use Rattle.c_syntax.specs.declared.token.Token.{Token}
@@ -10,11 +10,11 @@ use Rattle.c_syntax.specs.declared.token.Punct.TheVariants as p
 use Rattle.c_syntax.specs.contracts.token.Punct.{the_type as punct_type}
 use Rattle.c_syntax.specs.declared.expr.BinOp.{BinOp}
 use Rattle.c_grammar.specs.Tokens.{punct}
-use Rattle.c_grammar.specs.Operators.{comparison_of, Connective, both, one_of, either, connective_of, connective_level}
-use Rattle.c_grammar.specs.Reading.{Reader, punct_at, punct_by}
-use Rattle.c_grammar.proofs.Readers.{bind_ok, guard_ok, got, pair_is}
-use Rattle.std.specs.Prelude.{not, ◌&&◌, ◌||◌}
-use Rattle.acsl_terms.specs.Next.{ends_term, extends, has_tight, ends_chain_term, ends_chain_term_by, continues, continues_punct, continues_by}
+use Rattle.c_grammar.specs.Operators.{comparison_of, Connective, connective_of, connective_level}
+use Rattle.c_grammar.specs.Reading.{punct_at, punct_by}
+use Rattle.c_grammar.proofs.Readers.{guard_ok, got, pair_is}
+use Rattle.std.specs.Prelude.{not, ◌&&◌}
+use Rattle.acsl_terms.specs.Next.{extends, has_tight, ends_chain_term, ends_chain_term_by, continues, continues_punct, continues_by}
 use Rattle.c_grammar.specs.Operators.{binop_of}
 use Rattle.acsl_preds.specs.Next.{ends, ends_by, ends_atom, ends_atom_by, ends_pred, ends_pred_by, if_some, comparison_at, comparison_by, of_level, connective_at, connective_by}
 

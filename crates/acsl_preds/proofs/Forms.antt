@@ -1,5 +1,5 @@
 -- What is read as an operand, behind `==>` or as a whole predicate is spelled so.
-use Rattle.std.proofs.Common.{◌≡◌, ℕ, zero, suc, ◌≤◌, Bool, true, false, cond, eqb, List, [], ◌∷◌, ◌++◌, length, Option, Some, None, refl, sym, ap, ◌∙◌, subst, arith, append_assoc, append-nil}
+use Rattle.std.proofs.Common.{◌≡◌, ℕ, zero, suc, Bool, true, false, List, [], ◌∷◌, ◌++◌, length, Some, None, refl, sym, ap, ◌∙◌, subst, arith, append_assoc}
 use Rattle.c_syntax.specs.declared.token.Token.{Token}
 use Rattle.c_syntax.specs.declared.token.TokenKind.{TokenKind}
 use Rattle.c_syntax.specs.declared.token.TokenKind.TheVariants as k
@@ -10,12 +10,11 @@ use Rattle.c_syntax.specs.declared.token.Word.TheVariants as w
 use Rattle.c_syntax.specs.Expr as e
 use Rattle.c_syntax.specs.Term as t
 use Rattle.c_syntax.specs.Pred as r
-use Rattle.c_grammar.specs.Tokens.{Names, is_type, token, punct, word, name}
-use Rattle.c_grammar.specs.Operators.{Connective}
+use Rattle.c_grammar.specs.Tokens.{Names, token, punct, word, name}
 use Rattle.c_grammar.specs.Preds as g
 use Rattle.c_grammar.specs.Preds.{SpellsAtom, SpellsOperand, SpellsJoined, SpellsImplied, SpellsIff, SpellsPred, SpellsBinders, connected}
-use Rattle.c_grammar.specs.Reading.{Reader, ◌>>=◌, nothing, punct_at, chain, levels}
-use Rattle.c_grammar.proofs.Readers.{Took, Sound, bind_ok, guard_ok, got, pair_is}
+use Rattle.c_grammar.specs.Reading.{Reader, ◌>>=◌, nothing, punct_at}
+use Rattle.c_grammar.proofs.Readers.{Sound, bind_ok, got, pair_is}
 use Rattle.c_types.proofs.Tokens.{punct_is}
 use Rattle.acsl_preds.specs.Read.{ends_pred, connective_at, seen_as, atom_at, Form, an_operand, an_implied, a_whole, body_at, bound_at, value_at, quantified, let_at, operand_by, operand_over, joined_over, implies_by, implied_over, iff_at, iff_of, iff_over, arms_at, cond_by, whole_over, form_over, turned, none_below, form_at, pred_at}
 use Rattle.acsl_preds.proofs.Ends.{connective_is, pred_stops, no_connective}

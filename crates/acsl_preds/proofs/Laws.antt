@@ -1,5 +1,5 @@
 -- The readers of predicates, and of types and names that annotations declare, read exactly what is spelled. The crates above cite these laws.
-use Rattle.std.proofs.Common.{◌≡◌, ℕ, Bool, true, false, List, ◌∷◌, ◌++◌, Some, length, arith, length-append}
+use Rattle.std.proofs.Common.{◌≡◌, ℕ, Bool, true, false, List, ◌++◌, Some, length, arith, length-append}
 use Rattle.c_syntax.specs.declared.token.Token.{Token}
 use Rattle.c_syntax.specs.Expr as e
 use Rattle.c_syntax.specs.Pred as r
@@ -10,7 +10,7 @@ use Rattle.c_grammar.proofs.Readers.{Sound}
 use Rattle.c_types.specs.Read.{starts_type, ends_type_name}
 use Rattle.acsl_preds.specs.Next.{ends_pred}
 use Rattle.acsl_preds.specs.Binders.{logic_type_at, typed_at}
-use Rattle.acsl_preds.specs.Read.{form_at, a_whole, pred_at}
+use Rattle.acsl_preds.specs.Read.{pred_at}
 use Rattle.acsl_preds.specs.Views.{SpellsSomePred}
 use Rattle.acsl_preds.proofs.Below.{below}
 use Rattle.acsl_preds.proofs.BindersSound as binders_sound

@@ -1,5 +1,5 @@
 -- Predicates are neutral for what comes after a bracket: in them each bracket is closed, and no `..` stands outside brackets. None begins as a type.
-use Rattle.std.proofs.Common.{◌≡◌, ℕ, zero, suc, Bool, true, false, List, [], ◌∷◌, ◌++◌, Option, Some, None, refl, sym, ap, ◌∙◌, subst, append_assoc}
+use Rattle.std.proofs.Common.{◌≡◌, ℕ, suc, Bool, false, List, [], ◌∷◌, ◌++◌, Some, refl, sym, ap, ◌∙◌, subst, append_assoc}
 use Rattle.c_syntax.specs.declared.token.Token.{Token}
 use Rattle.c_syntax.specs.declared.token.Punct.{Punct}
 use Rattle.c_syntax.specs.declared.token.Punct.TheVariants as p
@@ -8,7 +8,7 @@ use Rattle.c_syntax.specs.declared.expr.BinOp.{BinOp}
 use Rattle.c_syntax.specs.Expr as e
 use Rattle.c_syntax.specs.Term as t
 use Rattle.c_syntax.specs.Pred as r
-use Rattle.c_grammar.specs.Tokens.{Names, is_type, punct, word, name}
+use Rattle.c_grammar.specs.Tokens.{Names, punct, word, name}
 use Rattle.c_grammar.specs.Operators.{comparison_of, Connective, connective_of}
 use Rattle.c_grammar.specs.Lists.{Separated}
 use Rattle.c_grammar.specs.Lists as lists

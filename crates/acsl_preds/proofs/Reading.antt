@@ -1,10 +1,9 @@
 -- The equations of the readers, in the code's words.
-use Rattle.std.proofs.Common.{◌≡◌, ℕ, zero, suc, ◌+◌, ◌-◌, ◌≤◌, Bool, true, false, cond, eqb, List, [], ◌∷◌, ◌++◌, length, Option, Some, None, Err, map, refl, sym, ap, ◌∙◌, add-one, arith, append_assoc, append-nil}
+use Rattle.std.proofs.Common.{◌≡◌, ℕ, zero, suc, ◌+◌, ◌-◌, ◌≤◌, Bool, true, false, cond, eqb, List, [], ◌∷◌, ◌++◌, length, Option, Some, None, Err, refl, sym, ap, ◌∙◌, add-one, arith, append_assoc, append-nil}
 use Rattle.std.specs.List.{list_all}
 use Rattle.std.specs.Prelude.{◌||◌, ◌&&◌, not}
 use Rattle.std.proofs.lemmas.Bool.Decides.{nat_tests}
 use Rattle.c_syntax.specs.declared.token.Token.{Token}
-use Rattle.c_syntax.specs.declared.token.Punct.{Punct}
 use Rattle.c_syntax.specs.declared.token.Punct.TheVariants as p
 use Rattle.c_syntax.specs.declared.expr.BinOp.{BinOp}
 use Rattle.c_syntax.specs.declared.expr.BinOp.TheVariants as o
@@ -13,11 +12,11 @@ use Rattle.c_syntax.specs.Pred as r
 use Rattle.c_grammar.specs.declared.fault.Fault.{Fault}
 use Rattle.c_grammar.specs.declared.fault.Fault.TheVariants.{Syntax, NoMemory}
 use Rattle.c_grammar.specs.Tokens.{Names}
-use Rattle.c_grammar.specs.Operators.{is_chain, goes_up, goes_down, Connective}
+use Rattle.c_grammar.specs.Operators.{is_chain, goes_up, goes_down}
 use Rattle.c_grammar.specs.Preds.{connected}
-use Rattle.c_grammar.specs.Reading.{Reader, ◌>>=◌, nothing, punct_at, chain, levels}
+use Rattle.c_grammar.specs.Reading.{Reader, ◌>>=◌, punct_at, chain, levels}
 use Rattle.c_grammar.specs.Views.{Gives}
-use Rattle.acsl_preds.specs.Read.{comparison_at, connective_at, with_items, is_unequal, with_tail, tail_at, more_items, Form, an_operand, an_implied, a_whole, under, below_at, go_at, none_below, form_over, operand_over, implied_over, whole_over, iff_over, iff_of, iff_at, turned, form_at, pred_at}
+use Rattle.acsl_preds.specs.Read.{comparison_at, connective_at, with_items, is_unequal, with_tail, tail_at, more_items, Form, an_operand, an_implied, a_whole, below_at, go_at, none_below, form_over, operand_over, implied_over, whole_over, iff_over, iff_of, iff_at, turned, form_at}
 use Rattle.acsl_preds.proofs.Binding.{with_items_after, gives_fault}
 
 -- ---- chains of comparisons

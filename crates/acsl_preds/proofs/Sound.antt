@@ -1,10 +1,9 @@
 -- What the readers of predicates read is spelled so.
-use Rattle.std.proofs.Common.{◌≡◌, ℕ, zero, suc, ◌-◌, ◌≤◌, Bool, true, false, cond, eqb, List, [], ◌∷◌, ◌++◌, length, Option, Some, None, refl, sym, ap, ◌∙◌, subst, ◌⊎◌, inl, inr, ⊎_elim, arith, append_assoc, append-nil}
+use Rattle.std.proofs.Common.{◌≡◌, ℕ, zero, suc, ◌-◌, Bool, true, false, cond, eqb, List, [], ◌∷◌, ◌++◌, length, Option, Some, None, refl, sym, ap, ◌∙◌, subst, ◌⊎◌, inl, inr, ⊎_elim, arith, append_assoc, append-nil}
 use Rattle.std.proofs.lemmas.Bool.Decides.{nat_tests}
 use Rattle.c_syntax.specs.declared.token.Token.{Token}
 use Rattle.c_syntax.specs.declared.token.TokenKind.{TokenKind}
 use Rattle.c_syntax.specs.declared.token.TokenKind.TheVariants as k
-use Rattle.c_syntax.specs.declared.token.Punct.{Punct}
 use Rattle.c_syntax.specs.declared.token.Punct.TheVariants as p
 use Rattle.c_syntax.specs.declared.token.Word.TheVariants as w
 use Rattle.c_syntax.specs.declared.expr.BinOp.{BinOp}
@@ -12,22 +11,22 @@ use Rattle.c_syntax.specs.Expr as e
 use Rattle.c_syntax.specs.Term as t
 use Rattle.c_syntax.specs.Pred as r
 use Rattle.c_grammar.specs.Tokens.{Names, is_type, token, punct, word, name}
-use Rattle.c_grammar.specs.Operators.{comparison_of, is_chain, shift_level, Connective, connective_of, connective_level}
+use Rattle.c_grammar.specs.Operators.{is_chain, shift_level}
 use Rattle.c_grammar.specs.Lists.{Separated}
 use Rattle.c_grammar.specs.Lists as lists
-use Rattle.c_grammar.specs.Terms.{anywhere, in_chain, SpellsTerm, SpellsTermBinary, SpellsSomeTerms, SpellsPointer}
+use Rattle.c_grammar.specs.Terms.{anywhere, in_chain, SpellsTerm, SpellsTermBinary, SpellsPointer}
 use Rattle.c_grammar.specs.Preds as g
 use Rattle.c_grammar.specs.Preds.{SpellsChain, SpellsPointers, SpellsAtom, SpellsOperand, SpellsJoined, SpellsImplied, SpellsIff, SpellsPred, SpellsBinders, connected}
-use Rattle.c_grammar.specs.Reading.{Reader, ◌>>=◌, nothing, punct_at, new_name_at, unless_type, linked, chain, levels}
+use Rattle.c_grammar.specs.Reading.{Reader, ◌>>=◌, punct_at, new_name_at}
 use Rattle.c_grammar.proofs.Readers.{Took, Sound, bind_ok, guard_ok, got, pair_is}
 use Rattle.c_types.proofs.Tokens.{punct_is, new_name_is}
 use Rattle.acsl_terms.specs.Next.{begins_chain}
 use Rattle.acsl_terms.specs.Read.{term_at, chain_term_at, some_terms_at, pointer_at}
-use Rattle.acsl_preds.specs.Read.{ends_pred, comparison_at, connective_at, with_items, with_tail, Tail, tail_at, tail_from, compared_more, chained, chain_at, more_items, comma_more, pointers_from, pointers_at, seen_as, named_by, named, closed_by, closed, atom_at, Form, an_operand, an_implied, a_whole, under, enclosed, bracketed, body_at, bound_at, value_at, quantified, let_at, operand_by, operand_over, implies_by, implied_over, iff_at, iff_of, iff_over, arms_at, cond_by, whole_over, form_over, turned, none_below, form_at, pred_at, binders_at}
-use Rattle.acsl_preds.proofs.Ends.{comparison_is, connective_is, pred_stops, no_connective}
+use Rattle.acsl_preds.specs.Read.{ends_pred, comparison_at, with_items, with_tail, Tail, tail_at, tail_from, compared_more, chained, chain_at, more_items, comma_more, pointers_from, pointers_at, seen_as, named_by, named, closed_by, closed, atom_at, Form, an_operand, an_implied, a_whole, under, enclosed, bracketed, body_at, bound_at, value_at, binders_at}
+use Rattle.acsl_preds.proofs.Ends.{comparison_is}
 use Rattle.acsl_preds.proofs.Below.{Below, SpellsList}
 use Rattle.acsl_preds.proofs.BindersSound.{binders_sound, with_items_ok}
-use Rattle.acsl_preds.proofs.Trailing.{Trailing, Reached, Reaches, Joins, Halts, not_trailing, linked_reaches, levels_reach}
+use Rattle.acsl_preds.proofs.Trailing.{Trailing, Reached}
 
 -- ---- steps
 

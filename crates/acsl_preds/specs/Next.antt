@@ -7,7 +7,7 @@ use Rattle.c_syntax.specs.declared.token.Punct.{Punct}
 use Rattle.c_syntax.specs.declared.token.Punct.TheVariants as p
 use Rattle.c_syntax.specs.declared.expr.BinOp.{BinOp}
 use Rattle.c_grammar.specs.Operators.{comparison_of, Connective, connective_of, connective_level}
-use Rattle.c_grammar.specs.Reading.{Reader, punct_at}
+use Rattle.c_grammar.specs.Reading.{Reader}
 
 -- Whether a punctuator may come behind an atom: it is no comparison, no operator that binds tighter, and no bracket or access to a part.
 abbrev pub ends_atom_by : Punct → Bool

@@ -1,11 +1,10 @@
 -- Readers of predicates (ACSL 2.2), as functions on token lists.
-use Rattle.std.specs.Prelude.{ℕ, zero, suc, ◌-◌, ◌==◌, Bool, true, false, List, [], ◌∷◌, ◌++◌, length, Option, Some, None, if◌then◌else◌}
+use Rattle.std.specs.Prelude.{ℕ, zero, suc, ◌-◌, ◌==◌, Bool, false, List, [], ◌∷◌, ◌++◌, length, Option, Some, None, if◌then◌else◌}
 use Rattle.c_syntax.specs.declared.token.Token.{Token}
 use Rattle.c_syntax.specs.declared.token.TokenKind.{TokenKind}
 use Rattle.c_syntax.specs.declared.token.TokenKind.TheVariants as k
 use Rattle.c_syntax.specs.declared.token.Punct.{Punct}
 use Rattle.c_syntax.specs.declared.token.Punct.TheVariants as p
-use Rattle.c_syntax.specs.declared.token.Word.{Word}
 use Rattle.c_syntax.specs.declared.token.Word.TheVariants as w
 use denote.Enum.Bare.{sameb}
 use Rattle.c_syntax.specs.contracts.expr.BinOp.{the_type as binop_type}
@@ -15,7 +14,7 @@ use Rattle.c_syntax.specs.Expr as e
 use Rattle.c_syntax.specs.Term as t
 use Rattle.c_syntax.specs.Pred as r
 use Rattle.c_grammar.specs.Tokens.{Names}
-use Rattle.c_grammar.specs.Operators.{is_chain, Connective}
+use Rattle.c_grammar.specs.Operators.{is_chain}
 use Rattle.c_grammar.specs.Preds.{connected}
 use Rattle.c_grammar.specs.Reading.{Reader, ◌>>=◌, nothing, punct_at, new_name_at, unless_type, chain, levels}
 use Rattle.acsl_terms.specs.Next.{begins_chain}

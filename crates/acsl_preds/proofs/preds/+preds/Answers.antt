@@ -1,10 +1,10 @@
-use Rattle.std.proofs.Common.{arith, ap, ◌∙◌, ◌-◌, ◌+◌, length}
+use Rattle.std.proofs.Common.{arith, ◌∙◌, ◌-◌, ◌+◌, length}
 use Rattle.std.proofs.lemmas.Result.{err_from_is_err_and}
 use Rattle.c_syntax.specs.declared.token.Punct.TheVariants as p
 use Rattle.c_syntax.specs.View.{view_pred}
 use Rattle.c_grammar.specs.Preds.{connected}
 use Rattle.c_grammar.specs.Reading.{levels}
-use Rattle.acsl_preds.specs.Views.{view_connective, view_found}
+use Rattle.acsl_preds.specs.Views.{view_connective}
 use Rattle.acsl_preds.specs.Read.{form_at, an_operand, an_implied, connective_at, iff_of, iff_at}
 use Rattle.acsl_preds.proofs.Reading.{chain_fault, chain_turn, iff_found}
 use Rattle.acsl_preds.proofs.preds.+preds.Goals as goal

@@ -1,4 +1,4 @@
-use Rattle.std.proofs.Common.{◌≡◌, ◌+◌, ◌*◌, ◌-◌, length}
+use Rattle.std.proofs.Common.{◌≡◌, ◌+◌, ◌*◌, ◌-◌}
 use Rattle.c_syntax.specs.View.{view_pred}
 use Rattle.c_grammar.specs.Preds.{connected}
 use Rattle.c_grammar.specs.Reading.{chain, levels}

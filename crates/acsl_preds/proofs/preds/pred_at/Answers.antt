@@ -1,4 +1,3 @@
-use Rattle.std.proofs.Common.{◌≡◌, true}
 use Rattle.c_syntax.specs.View.{view_pred}
 use Rattle.c_types.proofs.Clauses.{is_spelled, is_only}
 use Rattle.acsl_preds.specs.Read.{pred_at}

@@ -1,0 +1,15 @@
+pub mod Reading
+pub mod Sorting
+pub mod Separating
+pub mod Repeating
+pub mod Keywords
+pub mod Parts
+pub mod Sound
+pub mod SoundParts
+pub mod Entries
+pub mod Complete
+pub mod CompleteParts
+pub mod Facts
+pub mod Laws
+pub mod Promises
+pub mod Closed

@@ -1,0 +1,31 @@
+use Rattle.std.proofs.Common.{arith, ◌∙◌, ◌-◌, ◌+◌, length, map, sym}
+use Rattle.std.proofs.lemmas.Result.{err_from_is_err_and}
+use Rattle.acsl_parser.specs.Read.{plain_name_at}
+use Rattle.acsl_parser.proofs.Reading.{items_end, items_stop, plain_next, plain_fault}
+use Rattle.acsl_parser.proofs.endings.more_names.Goals as goal
+
+pub returns-in_default : goal.returns-in_default
+returns-in_default c =
+    let item = plain_name_at in
+    sym c.loop-turn.invariant ∙ items_stop item (length c.args.tokens.now - c.loop-turn.turn) c.loop-turn.items c.loop-turn.rest.now c.in_default.ensures
+
+pub returns-in_err-item : goal.returns-in_err-item
+returns-in_err-item c =
+    let item = plain_name_at in
+    let p = err_from_is_err_and c.from_residual.result c.from_residual.ensures.1 in
+    let left = length c.args.tokens.now - c.loop-turn.turn in
+    rw (p.1, p.2, ← c.loop-turn.invariant)
+    (plain_fault item left (left - 1) c.loop-turn.items c.loop-turn.rest.now _ c.in-Some.after.now _ (omega arith) c.in-Some.ensures c.in_err-item.ensures)
+
+pub loop-turn-preserved : goal.loop-turn-preserved
+loop-turn-preserved c =
+    let item = plain_name_at in
+    let left = length c.args.tokens.now - c.loop-turn.turn in
+    let later = length c.args.tokens.now - (c.loop-turn.turn + 1) in
+    plain_next item left later c.loop-turn.items _ c.in_ok-item.item c.loop-turn.rest.now _ c.in-Some.after.now c.in_ok-item.after.now (omega arith) c.in-Some.ensures c.in_ok-item.ensures c.in_ok-push.ensures.ok
+    ∙ c.loop-turn.invariant
+
+pub returns : goal.returns
+returns c =
+    let item = plain_name_at in
+    sym c.loop-turn.invariant ∙ items_end item (length c.args.tokens.now - c.loop-turn.turn) c.loop-turn.items c.loop-turn.rest.now (omega arith)

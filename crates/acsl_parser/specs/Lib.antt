@@ -1,0 +1,5 @@
+pub mod Lists
+pub mod Sorts
+pub mod Read
+pub mod Views
+pub mod Spelled

@@ -1,0 +1,6 @@
+use Rattle.c_parser.proofs.Exact.{one_program}
+use Rattle.c_parser.proofs.Parts.{parts}
+use Rattle.c_parser.proofs.parser.one_program.Goals as goal
+
+pub returns : goal.returns
+returns c = one_program parts

@@ -1,0 +1,9 @@
+pub mod Turns
+pub mod Tokens
+pub mod Sound
+pub mod SoundForms
+pub mod SoundStmts
+pub mod Starts
+pub mod Complete
+pub mod CompleteStmts
+pub mod Laws

@@ -1,0 +1,13 @@
+//! Statements: the parser of C's statements and of the annotations between them, by the grammar.
+#![tactic(auto)]
+
+mod blocks;
+mod forms;
+mod labels;
+mod nodes;
+mod parts;
+mod stmts;
+#[cfg(test)]
+mod tests;
+
+pub use blocks::{Body, block_at};

@@ -23,7 +23,8 @@ pub use fresh::Fresh;
 pub use head::{FormOp, Head, Shape, Sort, TermOp};
 pub use intern::{intern_formula, intern_term};
 pub use laws::{
-    division_truncates, fresh_names_are_new, fresh_names_differ, meaning_of_free_names, order_is_total,
+    division_truncates, fresh_names_are_new, fresh_names_differ, meaning_of_free_names,
+    order_is_total,
 };
 pub use setting::{LogicFn, Setting};
 pub use store::TermStore;

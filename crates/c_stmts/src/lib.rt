@@ -7,7 +7,5 @@ mod labels;
 mod nodes;
 mod parts;
 mod stmts;
-#[cfg(test)]
-mod tests;
 
 pub use blocks::{Body, block_at};

@@ -13,3 +13,4 @@ pub mod Facts
 pub mod Laws
 pub mod Promises
 pub mod Closed
+pub mod Placing

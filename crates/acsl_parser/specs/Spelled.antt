@@ -11,6 +11,10 @@ use Rattle.c_grammar.specs.Annots.{SpellsAssert, SpellsLogic}
 abbrev pub SpellsAssertOn : Names → (room : ℕ) → List Token → r.Pred × ℕ → Type 0
 SpellsAssertOn types room xs x = SpellsAssert types room xs x.0 x.1
 
+-- an assertion, whatever the line of its word
+abbrev pub SpellsAssertAlone : Names → (room : ℕ) → List Token → r.Pred → Type 0
+SpellsAssertAlone types room xs a = (line : ℕ) × SpellsAssert types room xs a line
+
 -- one definition or more
 pub record SpellsLogics (types : Names) (xs : List Token) (ds : List d.LogicDecl) : Type 0 where
   pub first : d.LogicDecl

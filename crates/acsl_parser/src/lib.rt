@@ -1,5 +1,5 @@
-//! Reads contracts, annotations of loops, assertions and definitions: each reader gives a tree exactly
-//! where the tokens begin with a spelling of it, unless memory runs out.
+//! Reads contracts, annotations of loops, assertions and definitions: what is read is spelled so, and what is
+//! spelled is read where what comes behind it may follow, unless memory runs out.
 #![tactic(auto)]
 
 mod annots;
@@ -8,9 +8,11 @@ mod clauses;
 mod endings;
 mod items;
 mod logics;
+mod places;
 mod sorted;
 #[cfg(test)]
 mod tests;
 mod words;
 
 pub use annots::{assert_at, contract_at, logic_at, logics_at, loop_at};
+pub use places::{parse_assert, parse_contract, parse_global, parse_loop};

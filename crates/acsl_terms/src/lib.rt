@@ -1,5 +1,5 @@
-//! Reads the terms of annotations: each reader gives a tree exactly where the tokens begin with a
-//! spelling of it, unless memory runs out.
+//! Reads the terms of annotations: what is read is spelled so, and what is
+//! spelled is read where what comes behind it may follow, unless memory runs out.
 #![tactic(auto)]
 
 mod chains;

@@ -142,9 +142,6 @@ pub data SpellsDecls : (types : Names) (at : ℕ) → List Token → List d.Decl
 abbrev pub SpellsLines : List Token → d.Program → List Lines → Type 0
 SpellsLines tokens p ls = (after : Names) × SpellsDecls [] 0 tokens p after ls
 
-abbrev pub SpellsProgram : List Token → d.Program → Type 0
-SpellsProgram tokens p = (ls : List Lines) × SpellsLines tokens p ls
-
 -- The line of the first declaration that isn't spelled: of the token behind the longest list of declarations with which the tokens begin.
 pub record IsUnspelledOn (tokens : List Token) (line : ℕ) : Type 0 where
   pub front : List Token

@@ -1,5 +1,7 @@
 use crate::parse;
-use c_syntax::{CType, Decl, Program, Punct, Token, TokenKind, Tokens, Word};
+use c_syntax::{
+    CType, Decl, Function, Program, Punct, Stmt, StmtNode, Token, TokenKind, Tokens, Word,
+};
 use std::alloc::Global;
 use std::test::Fail;
 use wp_base::{Kind, Line, List, NoMemory, Refusal, Rule, Stop, Str};
@@ -139,5 +141,120 @@ fn refuses_parameters_past_the_limit(rt: HostRuntime) -> Result<(), Fail> {
     let tokens = tokens_of(alloc, &pieces)?;
     // the parameter after 32 others, each of them with its comma
     assert!(rt; is_refused(&parse(alloc, &tokens), Rule::Limit, 100));
+    Ok(())
+}
+
+const BODY: [Piece; 60] = [
+    Piece::Open,
+    Piece::Name(b"requires"),
+    Piece::Name(b"x"),
+    Piece::Punct(Punct::Less),
+    Piece::Name(b"x"),
+    Piece::Punct(Punct::Semicolon),
+    Piece::Close,
+    Piece::Word(Word::Int),
+    Piece::Name(b"f"),
+    Piece::Punct(Punct::OpenParen),
+    Piece::Word(Word::Int),
+    Piece::Name(b"x"),
+    Piece::Punct(Punct::CloseParen),
+    Piece::Punct(Punct::OpenBrace),
+    Piece::Word(Word::Int),
+    Piece::Name(b"y"),
+    Piece::Punct(Punct::Assign),
+    Piece::Name(b"x"),
+    Piece::Punct(Punct::Semicolon),
+    Piece::Word(Word::If),
+    Piece::Punct(Punct::OpenParen),
+    Piece::Name(b"x"),
+    Piece::Punct(Punct::CloseParen),
+    Piece::Word(Word::Return),
+    Piece::Name(b"y"),
+    Piece::Punct(Punct::Semicolon),
+    Piece::Word(Word::Else),
+    Piece::Punct(Punct::Semicolon),
+    Piece::Open,
+    Piece::Name(b"loop"),
+    Piece::Name(b"assigns"),
+    Piece::Name(b"x"),
+    Piece::Punct(Punct::Semicolon),
+    Piece::Close,
+    Piece::Word(Word::While),
+    Piece::Punct(Punct::OpenParen),
+    Piece::Name(b"x"),
+    Piece::Punct(Punct::CloseParen),
+    Piece::Punct(Punct::OpenBrace),
+    Piece::Name(b"x"),
+    Piece::Punct(Punct::Assign),
+    Piece::Name(b"y"),
+    Piece::Punct(Punct::Semicolon),
+    Piece::Word(Word::Break),
+    Piece::Punct(Punct::Semicolon),
+    Piece::Punct(Punct::CloseBrace),
+    Piece::Open,
+    Piece::Name(b"assert"),
+    Piece::Name(b"x"),
+    Piece::Punct(Punct::Equal),
+    Piece::Name(b"y"),
+    Piece::Punct(Punct::Semicolon),
+    Piece::Close,
+    Piece::Word(Word::Return),
+    Piece::Name(b"x"),
+    Piece::Punct(Punct::Plus),
+    Piece::Name(b"y"),
+    Piece::Punct(Punct::Semicolon),
+    Piece::Punct(Punct::CloseBrace),
+    Piece::Punct(Punct::Semicolon),
+];
+
+// A local, an `if` with `else`, an annotated loop, an assertion and a `return`, each with the line of its first token or its keyword.
+fn are_expected(stmts: &[Stmt]) -> bool {
+    let [local, choice, turns, claim, give] = stmts else {
+        return false;
+    };
+    matches!(&local.node, StmtNode::Locals(vars) if vars.len() == 1)
+        && matches!(&choice.node, StmtNode::If(_, _, other) if other.is_some())
+        && matches!(&turns.node, StmtNode::While(annot, _, _) if annot.assigns.line == 30 && annot.assigns.place == 29)
+        && matches!(&claim.node, StmtNode::Assert(_))
+        && matches!(&give.node, StmtNode::Return(value) if value.is_some())
+        && local.line == 15
+        && choice.line == 20
+        && turns.line == 35
+        && claim.line == 48
+        && give.line == 54
+}
+
+fn has_body(function: &Function) -> bool {
+    let Some(body) = &function.body else {
+        return false;
+    };
+    let StmtNode::Block(stmts) = &body.node else {
+        return false;
+    };
+    let [clause] = function.contract.requires_.as_slice() else {
+        return false;
+    };
+    clause.line == 2
+        && clause.place == 1
+        && function.line == 9
+        && function.end == 59
+        && body.line == 14
+        && are_expected(stmts.as_slice())
+}
+
+#[test]
+fn reads_a_contract_and_a_body(rt: HostRuntime) -> Result<(), Fail> {
+    let alloc = rt.alloc();
+    // all but the last semicolon, which begins no declaration
+    let tokens = tokens_of(alloc, &BODY[..59])?;
+    match parse(alloc, &tokens) {
+        Ok(program) => match program.decls.as_slice() {
+            [Decl::Function(function)] => assert!(rt; has_body(function)),
+            _ => return Err(Fail::new("another declaration")),
+        },
+        Err(_) => return Err(Fail::new("not read")),
+    }
+    let tokens = tokens_of(alloc, &BODY)?;
+    assert!(rt; is_refused(&parse(alloc, &tokens), Rule::Syntax, 60));
     Ok(())
 }

@@ -3,7 +3,6 @@ pub mod Longest
 pub mod Lexing
 pub mod Reading
 pub mod Blocks
-pub mod Naming
 pub mod Sound
 pub mod SoundStmts
 pub mod Complete

@@ -5,4 +5,3 @@ pub mod Grammar
 pub mod Program
 pub mod Reader
 pub mod Views
-pub mod Scopes

@@ -7,10 +7,8 @@ mod fault;
 mod functions;
 mod lexer;
 mod marks;
-mod names;
 mod preds;
 mod reader;
-mod scopes;
 mod stmts;
 #[cfg(test)]
 mod tests;

@@ -9,7 +9,7 @@ ghost use Rattle.c_reader.specs.Views.{GivesAll};
 use crate::fault::Fault;
 use crate::functions::file;
 use crate::lexer::lex;
-use crate::names::are_well_named;
+use core_names::are_well_named;
 use core_prog::Core;
 use std::alloc::Global;
 use wp_base::{Refusal, Rule, Stop};

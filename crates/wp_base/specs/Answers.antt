@@ -16,6 +16,7 @@ number_of rule.Typing = 6
 number_of rule.Shape = 7
 number_of rule.Unsequenced = 8
 number_of rule.NoBody = 9
+number_of rule.Unbuilt = 10
 
 -- its name
 abbrev pub name_of : Rule → List ℕ
@@ -28,6 +29,7 @@ name_of rule.Typing = codes "type"
 name_of rule.Shape = codes "shape"
 name_of rule.Unsequenced = codes "unsequenced"
 name_of rule.NoBody = codes "no_body"
+name_of rule.Unbuilt = codes "unbuilt"
 
 -- the exit status
 abbrev pub code_of : Status → ℕ

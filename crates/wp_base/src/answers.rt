@@ -20,6 +20,8 @@ pub enum Rule {
     Shape,
     Unsequenced,
     NoBody,
+    /// The program is one that isn't verified yet.
+    Unbuilt,
 }
 
 impl Rule {
@@ -37,6 +39,7 @@ impl Rule {
             Rule::Shape => 7,
             Rule::Unsequenced => 8,
             Rule::NoBody => 9,
+            Rule::Unbuilt => 10,
         }
     }
 
@@ -54,6 +57,7 @@ impl Rule {
             Rule::Shape => "shape",
             Rule::Unsequenced => "unsequenced",
             Rule::NoBody => "no_body",
+            Rule::Unbuilt => "unbuilt",
         }
     }
 }

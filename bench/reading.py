@@ -1,0 +1,181 @@
+#!/usr/bin/env python3
+"""Measures the lexer on texts of a megabyte, or the lexer and the parser on texts of up to 200,000 tokens, and prints
+time and memory of each.
+
+Builds a small program around c_lexer, or around c_lexer and c_parser, in a folder of its own (proved first, as any),
+makes the texts, and runs the program on each. Run by hand: bench/reading.py tokens, or bench/reading.py trees
+"""
+import os
+import subprocess
+import sys
+import tempfile
+import time
+
+TOP = os.path.dirname(os.path.dirname(os.path.abspath(__file__)))
+LIMIT = 1048576
+MEMORY = [4, 8, 12, 16, 24, 32, 48, 64, 96, 128, 192, 256]
+LEXER = ["wp_base", "wp_io", "c_syntax", "c_lexer"]
+PARSER = ["c_grammar", "c_types", "c_exprs", "c_decls", "acsl_terms", "acsl_preds", "acsl_parser", "c_stmts", "c_parser"]
+
+MAIN = r"""//! Reads a file, and tells by its status whether it is read whole.
+#![tactic(auto)]
+
+ghost use Rattle.std.specs.Prelude.{◌≤◌, length};
+
+USES
+use std::alloc::Global;
+use std::env;
+use std::process::ExitCode;
+use wp_base::{Stop, Str};
+use wp_io::{Files, RealFiles, read_all};
+
+const LIMIT: usize = 1_048_576;
+
+fn text_of(rt: HostRuntime) -> Option<Vec<u8>> {
+    let alloc = rt.alloc();
+    let args = env::args(&rt).ok()?;
+    let mut name = None;
+    for word in args.skip(1) {
+        name = Str::from_bytes(alloc, word.as_bytes()).ok();
+    }
+    let name = name?;
+    let mut files = RealFiles::new(rt);
+    files.open(&name).ok()?;
+    read_all(alloc, &mut files, LIMIT).ok()
+}
+
+fn main(rt: HostRuntime) -> ExitCode {
+    let alloc = rt.alloc();
+    let Some(text) = text_of(rt) else {
+        return ExitCode::from(3);
+    };
+    if text.len() > LIMIT {
+        return ExitCode::from(4);
+    }
+    match read(alloc, text.as_slice()) {
+        Ok(()) => ExitCode::from(0),
+        Err(Stop::Refused(_)) => ExitCode::from(1),
+        Err(Stop::NoMemory) => ExitCode::from(2),
+    }
+}
+"""
+
+READ_TOKENS = """fn read(alloc: Global, text: &[u8]) -> Result<(), Stop>
+    requires { length text.now ≤ 1048576 }
+{
+    let _tokens = lex(alloc, text)?;
+    Ok(())
+}
+"""
+
+READ_TREES = """fn read(alloc: Global, text: &[u8]) -> Result<(), Stop>
+    requires { length text.now ≤ 1048576 }
+{
+    let tokens = lex(alloc, text)?;
+    let _program = parse(alloc, &tokens)?;
+    Ok(())
+}
+"""
+
+TOKENS = {
+    "nothing": b"",
+    "blanks": b" " * LIMIT,
+    "newlines": b"\n" * LIMIT,
+    "a comment": b"/*" + b"x" * (LIMIT - 4) + b"*/",
+    "a comment of stars": b"/*" + b"*" * (LIMIT - 3) + b"/",
+    "comments": b"/**/" * (LIMIT // 4),
+    "line comments": b"//\n" * (LIMIT // 3),
+    "an annotation": b"/*@" + b" " * (LIMIT - 5) + b"*/",
+    "an annotation left open": b"/*@" + b"*" * (LIMIT - 3),
+    "annotations left open in lines": b"//@ /*\n" * 60000,
+    "a name": b"a" * LIMIT,
+    "names": b"a b " * 100000,
+    "digits": b"0" * LIMIT,
+    "digits past the limit": b"1" * LIMIT,
+    "hexadecimal digits": b"0x" + b"f" * (LIMIT - 2),
+    "a long escape": b"'\\x" + b"0" * (LIMIT - 4) + b"'",
+    "a quote": b"'" + b"a" * (LIMIT - 1),
+    "opening brackets": b"(" * LIMIT,
+    "200,000 tokens": b"( + a" * 66666,
+    "line markers": b"# 1 x\n" * (LIMIT // 6),
+    "marker of comments": b"#" + b"/**/" * (LIMIT // 4 - 1) + b"1",
+    "backslashes in an annotation": b"//@ \\" + b"a" * (LIMIT - 6),
+}
+
+
+def function(body):
+    return b"int f(int a) {" + body + b"}"
+
+
+# At most 200,000 tokens each. A tree is as deep as its longest chain of operators, and is dropped level by level.
+TREES = {
+    "nothing": b"",
+    "400 functions of 80 statements": b"\n".join(function(b"a = a + a; " * 80) for _ in range(400)),
+    "199 brackets": function(b"return " + b"(" * 199 + b"a" + b")" * 199 + b";"),
+    "200 brackets": function(b"return " + b"(" * 200 + b"a" + b")" * 200 + b";"),
+    "a ladder of 190 else if": function(b"if (a) ; else " * 190 + b";"),
+    "100,000 statements": function(b";" * 100000),
+    "1,000 globals": b"int x = 1, y[2];\n" * 1000,
+    "no declaration at the end": b"int x = 1;\n" * 30000 + b"int",
+    "a sum of 5,000": function(b"return a" + b" + a" * 5000 + b";"),
+    "a sum of 90,000": function(b"return a" + b" + a" * 90000 + b";"),
+    "a chain of 5,000 assignments": function(b"a = " * 5000 + b"a;"),
+    "5,000 stars": b"int " + b"*" * 5000 + b"p;",
+    "a contract of 9,000 clauses": b"/*@ " + b"requires a < 1 && a > 0; " * 9000 + b"*/ " + function(b"return a;"),
+}
+
+
+def sources(trees):
+    """The crates of the program, those that it names, and its text."""
+    if not trees:
+        return LEXER, "wp_base wp_io c_lexer", MAIN.replace("USES", "use c_lexer::lex;") + READ_TOKENS
+    return LEXER + PARSER, "wp_base wp_io c_syntax c_lexer c_parser", MAIN.replace("USES", "use c_lexer::lex;\nuse c_parser::parse;") + READ_TREES
+
+
+def build(room, trees):
+    crates, named, main = sources(trees)
+    os.makedirs(f"{room}/crates/read_file/src")
+    os.mkdir(f"{room}/.git")
+    for name in crates:
+        subprocess.run(["cp", "-a", f"{TOP}/crates/{name}", f"{room}/crates/{name}"], check=True)
+    lines = [line for line in open(f"{TOP}/crates.txt") if line.split(":")[0] in crates]
+    with open(f"{room}/crates.txt", "w") as out:
+        out.write("".join(lines) + f"read_file: {named}\n")
+    with open(f"{room}/crates/read_file/src/main.rt", "w") as out:
+        out.write(main)
+    # Building ends in a run; one without a file only ends with its status.
+    log = subprocess.run(["rt", "run"], cwd=f"{room}/crates/read_file", capture_output=True, text=True)
+    program = f"{room}/crates/read_file/out/read_file"
+    if not os.path.exists(program):
+        sys.exit(log.stdout + log.stderr)
+    return program
+
+
+def run(program, path, megabytes=None):
+    """The seconds that the program takes on a file, and its status; with at most so much memory, where it is said."""
+    words = [program, path]
+    if megabytes:
+        words = ["sh", "-c", 'ulimit -v "$1"; exec "$2" "$3"', "sh", str(megabytes * 1024), program, path]
+    start = time.monotonic()
+    status = subprocess.run(words, capture_output=True).returncode
+    return time.monotonic() - start, status
+
+
+def main():
+    if sys.argv[1:] not in (["tokens"], ["trees"]):
+        sys.exit("usage: bench/reading.py tokens | trees")
+    trees = sys.argv[1] == "trees"
+    with tempfile.TemporaryDirectory() as room:
+        program = build(room, trees)
+        print(f"{'text':34}{'bytes':>9}{'seconds':>10}{'MB':>6}  status")
+        for name, text in (TREES if trees else TOKENS).items():
+            path = f"{room}/text.c"
+            with open(path, "wb") as out:
+                out.write(text)
+            seconds, status = run(program, path)
+            # the least memory, code and stack included, in which it ends so
+            least = next((megabytes for megabytes in MEMORY if run(program, path, megabytes)[1] == status), None)
+            print(f"{name:34}{len(text):9}{seconds:10.3f}{least or 'more':>6}  {status}", flush=True)
+
+
+main()

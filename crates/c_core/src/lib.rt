@@ -1,0 +1,14 @@
+//! From the tree of a program of C to that which is verified, where it is built so far.
+#![tactic(auto)]
+
+mod clauses;
+mod exprs;
+mod functions;
+mod preds;
+mod stmts;
+#[cfg(test)]
+mod tests;
+mod unmade;
+
+pub use functions::core_of;
+pub use unmade::Unmade;

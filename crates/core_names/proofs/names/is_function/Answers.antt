@@ -1,0 +1,11 @@
+use Rattle.std.proofs.Common.{sym, ◌∙◌, rules, tests}
+use Rattle.std.specs.Str.{bytes_eq}
+use Rattle.std.proofs.lemmas.Iterator.{YieldsList-from_slice}
+use Rattle.std.proofs.lemmas.Iterator.Search.{any_from_yields_List}
+use Rattle.core_names.proofs.Naming.{among_functions}
+use Rattle.core_names.proofs.names.is_function.Goals as goal
+
+pub returns : goal.returns
+returns c =
+    any_from_yields_List (λ f. bytes_eq f.name c.args.name.now) _ _ _ c.any.ensures.ran (YieldsList-from_slice c.args.functions.now cc) (λ x b q k. search (rules, tests))
+    ∙ sym (among_functions c.args.functions.now c.args.name.now)

@@ -10,8 +10,6 @@ mod items;
 mod logics;
 mod places;
 mod sorted;
-#[cfg(test)]
-mod tests;
 mod words;
 
 pub use annots::{assert_at, contract_at, logic_at, logics_at, loop_at};

@@ -6,8 +6,6 @@ mod binders;
 mod chains;
 mod next;
 mod preds;
-#[cfg(test)]
-mod tests;
 mod trees;
 
 pub use binders::{logic_type_at, typed_at};

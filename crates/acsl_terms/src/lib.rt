@@ -9,8 +9,6 @@ mod past;
 mod place;
 mod readers;
 mod terms;
-#[cfg(test)]
-mod tests;
 mod tokens;
 
 pub use chains::{begins_chain, continues};

@@ -6,8 +6,6 @@ mod exprs;
 mod functions;
 mod preds;
 mod stmts;
-#[cfg(test)]
-mod tests;
 mod unmade;
 
 pub use functions::core_of;

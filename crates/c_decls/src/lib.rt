@@ -6,8 +6,6 @@ mod decls;
 mod enums;
 mod fields;
 mod params;
-#[cfg(test)]
-mod tests;
 
 pub use decls::{
     declarator_at, enumerators_at, fields_at, linkage_at, params_at, variables_after, variables_at,

@@ -4,8 +4,6 @@
 mod exprs;
 mod operators;
 mod read;
-#[cfg(test)]
-mod tests;
 mod trees;
 
 pub use read::{cond_at, expr_at};

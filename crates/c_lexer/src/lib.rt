@@ -11,7 +11,5 @@ mod pieces;
 mod place;
 mod rows;
 mod tables;
-#[cfg(test)]
-mod tests;
 
 pub use lexer::lex;

@@ -9,7 +9,5 @@ mod function;
 mod limits;
 mod lines;
 mod parser;
-#[cfg(test)]
-mod tests;
 
 pub use parser::{one_program, parse};

@@ -10,8 +10,6 @@ mod marks;
 mod preds;
 mod reader;
 mod stmts;
-#[cfg(test)]
-mod tests;
 mod token;
 
 pub use reader::{read_program, spelled_once};

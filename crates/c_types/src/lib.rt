@@ -2,8 +2,6 @@
 #![tactic(auto)]
 
 mod kinds;
-#[cfg(test)]
-mod tests;
 mod types;
 
 pub use types::{stars_at, starts_type, type_at, type_name_at};

@@ -8,8 +8,6 @@ mod leaves;
 mod read;
 mod scan;
 mod terms;
-#[cfg(test)]
-mod tests;
 mod words;
 mod write;
 

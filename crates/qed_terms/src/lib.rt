@@ -13,8 +13,6 @@ mod node;
 mod setting;
 mod store;
 mod term;
-#[cfg(test)]
-mod tests;
 mod tree_store;
 mod verdict;
 

@@ -1,0 +1,133 @@
+-- A text spells one program or has one fault.
+use Rattle.std.proofs.Common.{◌≡◌, ℕ, Bool, true, false, if◌then◌else◌, List, [], ◌∷◌, ◌++◌, length, Option, Some, None, Result, Ok, Err, MatchResult, refl, sym, ap, ◌∙◌, subst, arith, inl, inr}
+use Rattle.wp_base.specs.declared.answers.Refusal.{Refusal}
+use Rattle.wp_base.specs.declared.answers.Rule.{Rule}
+use Rattle.wp_base.specs.declared.answers.Rule.TheVariants as rule
+use Rattle.wp_base.specs.declared.answers.Stop.{Stop}
+use Rattle.wp_base.specs.declared.answers.Stop.TheVariants as stop
+use Rattle.c_syntax.specs.declared.token.Token.{Token}
+use Rattle.c_syntax.specs.Decl as d
+use Rattle.c_lexer.specs.Tokens.{tokens_of, StopsWith}
+use Rattle.c_grammar.specs.Decls.{past_limit, SpellsLines, IsUnspelledOn}
+use Rattle.c_parser.specs.Outcome.{SpellsWithin, SpellsPast, Refuses}
+use Rattle.c_parser.proofs.Exact.{one_program}
+use Rattle.c_parser.proofs.Parts.{parts}
+use Rattle.core_prog.specs.Tree as t
+use Rattle.core_prog.specs.Names.{is_well_named_program}
+use Rattle.c_core.specs.Core.{core_of}
+use Rattle.c_front.specs.Text.{where_named, built, Spells, HasFault, unlexed, unspelled, past, unbuilt}
+
+same_tokens : (text : List ℕ) (ts us : List Token) → tokens_of text ≡ Ok ts → tokens_of text ≡ Ok us → ts ≡ us
+same_tokens text ts us a b = let same = sym a ∙ b in cc
+
+-- tokens and a fault of tokens
+not_both : (text : List ℕ) (ts : List Token) (r : Refusal) → tokens_of text ≡ Ok ts → tokens_of text ≡ Err r → ⊥
+not_both text ts r a b = let same = sym a ∙ b in absurd cc
+
+tree_once : (ts us : List Token) (p q : d.Program) → ts ≡ us → SpellsWithin ts p → SpellsWithin us q → p ≡ q
+tree_once ts us p q same s s' = let s'' = subst (λ ts. SpellsWithin ts q) (sym same) s' in (one_program parts ts p q s.0 s''.0 s.1 s''.1).0
+
+pub spelled_once : (text : List ℕ) (p q : t.Program) → Spells text p → Spells text q → p ≡ q
+spelled_once text p q s s' =
+    let same = tree_once s.tokens s'.tokens s.tree s'.tree (same_tokens text s.tokens s'.tokens s.lexed s'.lexed) s.spelled s'.spelled in
+    let made : Some p ≡ Some q = sym s.made ∙ ap built same ∙ s'.made in
+    cc
+
+-- within the limits or past one
+not_past : (ts us : List Token) (p : d.Program) (line : ℕ) → ts ≡ us → SpellsWithin ts p → SpellsPast us line → ⊥
+not_past ts us p line same s s' =
+    let s'' = subst (λ ts. SpellsPast ts line) (sym same) s' in
+    let ls = (one_program parts ts p s''.0 s.0 s''.1 s.1 s''.2).1 in
+    let limit : None ≡ Some line = sym s.2 ∙ ap (past_limit 0) ls ∙ s''.3 in
+    absurd cc
+
+pub no_fault : (text : List ℕ) (p : t.Program) (r : Refusal) → Spells text p → HasFault text r → ⊥
+no_fault text p r s (unlexed q e) = not_both text s.tokens q s.lexed e
+no_fault text p r s (unspelled ts line e none u) = none s.tree s.spelled.0 (subst (λ ts. SpellsLines ts s.tree s.spelled.0) (same_tokens text s.tokens ts s.lexed e) s.spelled.1)
+no_fault text p r s (past ts line e over) = not_past s.tokens ts s.tree line (same_tokens text s.tokens ts s.lexed e) s.spelled over
+no_fault text p r s (unbuilt ts tree e within none) =
+    let same = tree_once s.tokens ts s.tree tree (same_tokens text s.tokens ts s.lexed e) s.spelled within in
+    let made : Some p ≡ None = sym s.made ∙ ap built same ∙ none in
+    absurd cc
+
+-- ---- one fault
+
+next_once : (xs xs' ys ys' : List Token) (y y' : Token) → xs ++ y ∷ ys ≡ xs' ++ y' ∷ ys' → length xs ≡ length xs' → y ≡ y'
+next_once [] [] ys ys' y y' e n = cc
+next_once [] (x ∷ xs') ys ys' y y' e n = absurd cc
+next_once (x ∷ xs) [] ys ys' y y' e n = absurd cc
+next_once (x ∷ xs) (x' ∷ xs') ys ys' y y' e n =
+    let rest : xs ++ y ∷ ys ≡ xs' ++ y' ∷ ys' = cc in
+    let lengths : length xs ≡ length xs' = cc in
+    next_once xs xs' ys ys' y y' rest lengths
+
+line_once : (ts : List Token) (line line' : ℕ) → IsUnspelledOn ts line → IsUnspelledOn ts line' → line ≡ line'
+line_once ts line line' u u' =
+    let one = u.longest u'.front (u'.next ∷ u'.rest) u'.ds u'.after u'.ls u'.split u'.spelled in
+    let two = u'.longest u.front (u.next ∷ u.rest) u.ds u.after u.ls u.split u.spelled in
+    let same : u.next ≡ u'.next = next_once u.front u'.front u.rest u'.rest u.next u'.next (sym u.split ∙ u'.split) (omega (arith, one, two)) in
+    u.same_line ∙ ap (λ (t : Token). t.line) same ∙ sym u'.same_line
+
+past_once : (ts : List Token) (line line' : ℕ) → SpellsPast ts line → SpellsPast ts line' → line ≡ line'
+past_once ts line line' s s' =
+    let ls = (one_program parts ts s.0 s'.0 s.1 s'.1 s.2 s'.2).1 in
+    let limit : Some line ≡ Some line' = sym s.3 ∙ ap (past_limit 0) ls ∙ s'.3 in
+    cc
+
+pub one_fault : (text : List ℕ) (r q : Refusal) → HasFault text r → HasFault text q → r ≡ q
+one_fault text r q (unlexed r' e) (unlexed q' e') = let same = sym e ∙ e' in cc
+one_fault text r q (unlexed r' e) (unspelled ts line e' none u) = absurd (not_both text ts r' e' e)
+one_fault text r q (unlexed r' e) (past ts line e' over) = absurd (not_both text ts r' e' e)
+one_fault text r q (unlexed r' e) (unbuilt ts tree e' within none) = absurd (not_both text ts r' e' e)
+one_fault text r q (unspelled ts line e none u) (unlexed q' e') = absurd (not_both text ts q' e e')
+one_fault text r q (unspelled ts line e none u) (unspelled ts' line' e' none' u') =
+    ap (λ (n : ℕ). record { rule = rule.Syntax; line = n }) (line_once ts line line' u (subst (λ ts. IsUnspelledOn ts line') (same_tokens text ts' ts e' e) u'))
+one_fault text r q (unspelled ts line e none u) (past ts' line' e' over) =
+    let here = subst (λ ts. SpellsPast ts line') (same_tokens text ts' ts e' e) over in
+    absurd (none here.0 here.1 here.2)
+one_fault text r q (unspelled ts line e none u) (unbuilt ts' tree e' within unmade) =
+    let here = subst (λ ts. SpellsWithin ts tree) (same_tokens text ts' ts e' e) within in
+    absurd (none tree here.0 here.1)
+one_fault text r q (past ts line e over) (unlexed q' e') = absurd (not_both text ts q' e e')
+one_fault text r q (past ts line e over) (unspelled ts' line' e' none u) =
+    let here = subst (λ ts. SpellsPast ts line) (same_tokens text ts ts' e e') over in
+    absurd (none here.0 here.1 here.2)
+one_fault text r q (past ts line e over) (past ts' line' e' over') =
+    ap (λ (n : ℕ). record { rule = rule.Limit; line = n }) (past_once ts line line' over (subst (λ ts. SpellsPast ts line') (same_tokens text ts' ts e' e) over'))
+one_fault text r q (past ts line e over) (unbuilt ts' tree e' within none) = absurd (not_past ts' ts tree line (same_tokens text ts' ts e' e) within over)
+one_fault text r q (unbuilt ts tree e within none) (unlexed q' e') = absurd (not_both text ts q' e e')
+one_fault text r q (unbuilt ts tree e within none) (unspelled ts' line' e' none' u) =
+    let here = subst (λ ts. SpellsWithin ts tree) (same_tokens text ts ts' e e') within in
+    absurd (none' tree here.0 here.1)
+one_fault text r q (unbuilt ts tree e within none) (past ts' line' e' over) = absurd (not_past ts ts' tree line' (same_tokens text ts ts' e e') within over)
+one_fault text r q (unbuilt ts tree e within none) (unbuilt ts' tree' e' within' none') = refl
+
+-- ---- what the code answers
+
+pub read_tokens : (text : List ℕ) (result : Result (List Token) Stop) (ts : List Token) → MatchResult result (λ ts. tokens_of text ≡ Ok ts) (λ stop. StopsWith stop (tokens_of text)) → result ≡ Ok ts → tokens_of text ≡ Ok ts
+read_tokens text result ts given is = subst (λ (x : Result (List Token) Stop). MatchResult x (λ ts. tokens_of text ≡ Ok ts) (λ stop. StopsWith stop (tokens_of text))) is given
+
+pub lexing_refused : (text : List ℕ) (end : Stop) (r : Refusal) → end ≡ stop.Refused r → StopsWith end (tokens_of text) → HasFault text r
+lexing_refused text end r is given = unlexed r (subst (λ end. StopsWith end (tokens_of text)) is given)
+
+pub parsing_refused : (text : List ℕ) (ts : List Token) (r : Refusal) → tokens_of text ≡ Ok ts → Refuses ts r → HasFault text r
+parsing_refused text ts r e (inl s) =
+    let is : r ≡ record { rule = rule.Syntax; line = r.line } = ap (λ (x : Rule). record { rule = x; line = r.line }) s.0 in
+    subst (HasFault text) (sym is) (unspelled ts r.line e s.1 s.2)
+parsing_refused text ts r e (inr s) =
+    let is : r ≡ record { rule = rule.Limit; line = r.line } = ap (λ (x : Rule). record { rule = x; line = r.line }) s.0 in
+    subst (HasFault text) (sym is) (past ts r.line e s.1)
+
+pub not_built : (text : List ℕ) (ts : List Token) (p : d.Program) (r : Refusal) → tokens_of text ≡ Ok ts → SpellsWithin ts p → built p ≡ None → record { rule = rule.Unbuilt; line = 1 } ≡ r → HasFault text r
+not_built text ts p r e within none is = subst (HasFault text) is (unbuilt ts p e within none)
+
+-- the names of a program that is built are in order
+named_in : (o : Option t.Program) (p : t.Program) → where_named o ≡ Some p → is_well_named_program p ≡ true
+named_in None p e = absurd cc
+named_in (Some q) p e = named_if (is_well_named_program q) refl e where
+  named_if : (b : Bool) → is_well_named_program q ≡ b → (if b then Some q else None) ≡ Some p → is_well_named_program p ≡ true
+  named_if true is e = let same : q ≡ p = cc in ap is_well_named_program (sym same) ∙ is
+  named_if false is e = absurd cc
+
+pub core_named : (text : List ℕ) (p : t.Program) → Spells text p → is_well_named_program p ≡ true
+core_named text p s = named_in (core_of s.tree) p s.made

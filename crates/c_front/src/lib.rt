@@ -1,0 +1,6 @@
+//! Reads a text: from bytes to the program that is verified, or the one fault of the text.
+#![tactic(auto)]
+
+mod reader;
+
+pub use reader::{one_fault, read_program, spelled_has_no_fault, spelled_once};

@@ -1,0 +1,63 @@
+// From bytes to the program that is verified.
+ghost use Rattle.std.specs.Prelude.{◌≡◌, ◌≤◌, ℕ, List, length, IfOk};
+ghost use Rattle.core_prog.specs.Tree as t;
+ghost use Rattle.core_prog.specs.View.{view_program};
+ghost use Rattle.c_syntax.specs.View as tree;
+ghost use Rattle.c_core.specs.Made.{Makes};
+ghost use Rattle.c_front.specs.Text as spec;
+ghost use Rattle.c_front.specs.Text.{HasFault, Spells};
+
+use c_core::{Unmade, core_of};
+use c_lexer::lex;
+use c_parser::parse;
+use c_syntax::Program;
+use core_names::are_well_named;
+use core_prog::Core;
+use std::alloc::Global;
+use wp_base::{Refusal, Rule, Stop};
+
+// The program to be verified, where this one is built.
+fn built(alloc: Global, program: &Program) -> Result<Core, Unmade>
+    ensures { Makes view_program result (spec.built (tree.view_program program.now)) }
+{
+    let core = core_of(alloc, program)?;
+    if !are_well_named(alloc, core.functions.as_slice())? {
+        return Err(Unmade::Unbuilt);
+    }
+    Ok(core)
+}
+
+/// Reads a text: the program that is to be verified, or the fault of the text.
+pub fn read_program(alloc: Global, text: &[u8]) -> Result<Core, Stop>
+    requires { length text.now ≤ 1048576 }
+    // What is read is what the text spells.
+    ensures spelled { IfOk result (λ core. Spells text.now (view_program core)) }
+    // A text is refused by its fault.
+    ensures refused { (r : Refusal) → result ≡ Err (Stop.Refused r) → HasFault text.now r }
+{
+    let tokens = lex(alloc, text)?;
+    let program = parse(alloc, &tokens)?;
+    match built(alloc, &program) {
+        Ok(core) => Ok(core),
+        Err(Unmade::Unbuilt) => Err(Stop::Refused(Refusal {
+            rule: Rule::Unbuilt,
+            line: 1,
+        })),
+        Err(Unmade::NoMemory) => Err(Stop::NoMemory),
+    }
+}
+
+/// Which program a text spells is determined.
+pub fn spelled_once()
+    ensures { (text : List ℕ) → (p q : t.Program) → Spells text p → Spells text q → p ≡ q }
+{}
+
+/// A text that spells a program has no fault, so it is read unless memory runs out.
+pub fn spelled_has_no_fault()
+    ensures { (text : List ℕ) → (p : t.Program) → (r : Refusal) → Spells text p → HasFault text r → ⊥ }
+{}
+
+/// A text has one fault at most.
+pub fn one_fault()
+    ensures { (text : List ℕ) → (r s : Refusal) → HasFault text r → HasFault text s → r ≡ s }
+{}

@@ -189,10 +189,14 @@ fn reads_contracts(rt: HostRuntime) -> Result<(), Fail> {
     let tree =
         " (contract (requires#1 true) (assigns@2#4 x@2 y@2 from@2) (ensures@2#11 true@2) (decreases@2#14 1@2) (behavior@3#17 b (assumes@3#20 true@3) (assigns@3#23)) (complete@4#26 b c) (disjoint@4#32))";
     let tokens = annotation_of(alloc, text)?;
-    let answer = contract_at(alloc, &[], tokens.len(), inside(&tokens));
+    let here = inside(&tokens);
+    assert!(rt; here.len() <= tokens.len());
+    let answer = contract_at(alloc, &[], tokens.len(), here);
     assert!(rt; is_read(alloc, answer, tree, 1)?);
     let tokens = annotation_of(alloc, b"assigns \\nothing; assigns \\nothing;")?;
-    assert!(rt; is_refused(contract_at(alloc, &[], tokens.len(), inside(&tokens))));
+    let here = inside(&tokens);
+    assert!(rt; here.len() <= tokens.len());
+    assert!(rt; is_refused(contract_at(alloc, &[], tokens.len(), here)));
     Ok(())
 }
 
@@ -202,7 +206,9 @@ fn reads_loops_assertions_and_definitions(rt: HostRuntime) -> Result<(), Fail> {
     let text = b"loop variant x; loop assigns \\nothing;\nloop invariant \\true;";
     let tree = " (loop (invariant@2#9 true@2) (assigns#5) (variant#1 x))";
     let tokens = annotation_of(alloc, text)?;
-    let answer = loop_at(alloc, &[], 200, tokens.len(), inside(&tokens));
+    let here = inside(&tokens);
+    assert!(rt; here.len() <= tokens.len());
+    let answer = loop_at(alloc, &[], 200, tokens.len(), here);
     assert!(rt; is_read(alloc, answer, tree, 1)?);
     let tokens = annotation_of(alloc, b"assert\n\\true;")?;
     let answer = assert_at(alloc, &[], 200, inside(&tokens));

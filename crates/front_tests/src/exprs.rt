@@ -156,22 +156,6 @@ fn also(out: &mut Vec<u8>, expr: &Expr) -> Result<(), NoMemory> {
 }
 
 #[cycle(exprs)]
-fn two(
-    out: &mut Vec<u8>,
-    head: &str,
-    line: Line,
-    left: &Expr,
-    right: &Expr,
-) -> Result<(), NoMemory> {
-    open(out, head, line)?;
-    put(out, b" ")?;
-    show_expr(out, left)?;
-    put(out, b" ")?;
-    show_expr(out, right)?;
-    close(out)
-}
-
-#[cycle(exprs)]
 fn args_of(out: &mut Vec<u8>, args: &[Expr]) -> Result<(), NoMemory> {
     for arg in args {
         put(out, b" ")?;
@@ -194,7 +178,10 @@ pub fn show_expr(out: &mut Vec<u8>, expr: &Expr) -> Result<(), NoMemory> {
             close(out)
         }
         ExprNode::Binary(op, left, right) => {
-            two(out, operator_name(*op), line, left.get(), right.get())
+            open(out, operator_name(*op), line)?;
+            also(out, left.get())?;
+            also(out, right.get())?;
+            close(out)
         }
         ExprNode::Cond(test, yes, no) => {
             open(out, "?", line)?;
@@ -230,7 +217,12 @@ pub fn show_expr(out: &mut Vec<u8>, expr: &Expr) -> Result<(), NoMemory> {
             put_name(out, name.bytes())?;
             args_of(out, args.as_slice())
         }
-        ExprNode::Index(of, at) => two(out, "index", line, of.get(), at.get()),
+        ExprNode::Index(of, at) => {
+            open(out, "index", line)?;
+            also(out, of.get())?;
+            also(out, at.get())?;
+            close(out)
+        }
         ExprNode::Field { of, name, arrow } => {
             open(out, if *arrow { "->" } else { "." }, line)?;
             put(out, b" ")?;

@@ -8,7 +8,7 @@ ghost use Rattle.acsl_preds.specs.Views.{view_connective};
 use crate::next::Connective;
 use c_syntax::{Pred, PredNode, Term, VarDecl};
 use std::alloc::Global;
-use wp_base::{Boxed, Line, List, NoMemory, Str};
+use wp_base::{Boxed, Line, List, NoMemory, Str, box_both, box_three};
 
 /// `\true`.
 #[tactic(auto, using(c_syntax::proofs::Equations::pred_laws))]
@@ -55,8 +55,7 @@ pub fn not_sooner(alloc: Global, line: Line, inside: Pred) -> Result<Pred, NoMem
 pub fn implied_by(alloc: Global, line: Line, left: Pred, right: Pred) -> Result<Pred, NoMemory>
     ensures { IfOk result (λ made. view_pred made ≡ r.implies line (view_pred left) (view_pred right)) }
 {
-    let left = Boxed::new(alloc, left)?;
-    let right = Boxed::new(alloc, right)?;
+    let (left, right) = box_both(alloc, left, right)?;
     let node = PredNode::Implies(left, right);
     Ok(Pred { node, line })
 }
@@ -66,8 +65,7 @@ pub fn implied_by(alloc: Global, line: Line, left: Pred, right: Pred) -> Result<
 pub fn same_as(alloc: Global, line: Line, left: Pred, right: Pred) -> Result<Pred, NoMemory>
     ensures { IfOk result (λ made. view_pred made ≡ r.iff line (view_pred left) (view_pred right)) }
 {
-    let left = Boxed::new(alloc, left)?;
-    let right = Boxed::new(alloc, right)?;
+    let (left, right) = box_both(alloc, left, right)?;
     let node = PredNode::Iff(left, right);
     Ok(Pred { node, line })
 }
@@ -83,9 +81,7 @@ pub fn either_arm(
 ) -> Result<Pred, NoMemory>
     ensures { IfOk result (λ made. view_pred made ≡ r.cond line (view_pred test) (view_pred yes) (view_pred no)) }
 {
-    let test = Boxed::new(alloc, test)?;
-    let yes = Boxed::new(alloc, yes)?;
-    let no = Boxed::new(alloc, no)?;
+    let (test, yes, no) = box_three(alloc, test, yes, no)?;
     let node = PredNode::Cond(test, yes, no);
     Ok(Pred { node, line })
 }
@@ -129,8 +125,7 @@ pub fn such_that(
 ) -> Result<Pred, NoMemory>
     ensures { IfOk result (λ made. view_pred made ≡ r.let_in line name (view_term value) (view_pred inside)) }
 {
-    let value = Boxed::new(alloc, value)?;
-    let inside = Boxed::new(alloc, inside)?;
+    let (value, inside) = box_both(alloc, value, inside)?;
     let node = PredNode::Let(name, value, inside);
     Ok(Pred { node, line })
 }
@@ -146,8 +141,7 @@ pub fn connected(
 ) -> Result<Pred, NoMemory>
     ensures { IfOk result (λ made. view_pred made ≡ connected_of (view_connective connective) line (view_pred left) (view_pred right)) }
 {
-    let left = Boxed::new(alloc, left)?;
-    let right = Boxed::new(alloc, right)?;
+    let (left, right) = box_both(alloc, left, right)?;
     match connective {
         Connective::Both => Ok(Pred {
             node: PredNode::And(left, right),

@@ -5,7 +5,7 @@ ghost use Rattle.c_syntax.specs.View.{view_ctype, view_term};
 
 use c_syntax::{BinOp, CType, Term, TermNode, UnOp};
 use std::alloc::Global;
-use wp_base::{Boxed, Line, List, NoMemory, Str};
+use wp_base::{Boxed, Line, List, NoMemory, Str, box_both, box_three};
 
 #[tactic(auto, using(c_syntax::proofs::Equations::term_laws))]
 pub fn unary(alloc: Global, op: UnOp, line: Line, of: Term) -> Result<Term, NoMemory>
@@ -25,8 +25,8 @@ pub fn binary(
 ) -> Result<Term, NoMemory>
     ensures { IfOk result (λ made. view_term made ≡ t.binary line op (view_term left) (view_term right)) }
 {
-    let left = Boxed::new(alloc, left)?;
-    let node = TermNode::Binary(op, left, Boxed::new(alloc, right)?);
+    let (left, right) = box_both(alloc, left, right)?;
+    let node = TermNode::Binary(op, left, right);
     Ok(Term { node, line })
 }
 
@@ -40,9 +40,8 @@ pub fn cond(
 ) -> Result<Term, NoMemory>
     ensures { IfOk result (λ made. view_term made ≡ t.cond line (view_term test) (view_term first) (view_term second)) }
 {
-    let test = Boxed::new(alloc, test)?;
-    let first = Boxed::new(alloc, first)?;
-    let node = TermNode::Cond(test, first, Boxed::new(alloc, second)?);
+    let (test, first, second) = box_three(alloc, test, first, second)?;
+    let node = TermNode::Cond(test, first, second);
     Ok(Term { node, line })
 }
 
@@ -50,8 +49,8 @@ pub fn cond(
 pub fn index(alloc: Global, line: Line, of: Term, at: Term) -> Result<Term, NoMemory>
     ensures { IfOk result (λ made. view_term made ≡ t.index line (view_term of) (view_term at)) }
 {
-    let of = Boxed::new(alloc, of)?;
-    let node = TermNode::Index(of, Boxed::new(alloc, at)?);
+    let (of, at) = box_both(alloc, of, at)?;
+    let node = TermNode::Index(of, at);
     Ok(Term { node, line })
 }
 
@@ -92,8 +91,8 @@ pub fn at_label(alloc: Global, line: Line, of: Term, label: Str) -> Result<Term,
 pub fn range(alloc: Global, line: Line, low: Term, high: Term) -> Result<Term, NoMemory>
     ensures { IfOk result (λ made. view_term made ≡ t.range line (view_term low) (view_term high)) }
 {
-    let low = Boxed::new(alloc, low)?;
-    let node = TermNode::Range(low, Boxed::new(alloc, high)?);
+    let (low, high) = box_both(alloc, low, high)?;
+    let node = TermNode::Range(low, high);
     Ok(Term { node, line })
 }
 

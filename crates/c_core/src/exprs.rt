@@ -9,7 +9,7 @@ use crate::unmade::Unmade;
 use c_syntax::{Base, BinOp, ExprNode, Suffix, Term, TermNode, Token, TokenKind};
 use core_prog::{Comparison, Expr, SumOp};
 use std::alloc::Global;
-use wp_base::{Boxed, Line, Str};
+use wp_base::{Line, Str, box_both};
 
 /// The greatest `int`.
 const MOST_INT: i128 = 2_147_483_647;
@@ -93,8 +93,7 @@ fn added(alloc: Global, line: Line, op: BinOp, left: Expr, right: Expr) -> Resul
     let Some(sum) = sum_of(op) else {
         return Err(Unmade::Unbuilt);
     };
-    let left = Boxed::new(alloc, left)?;
-    let right = Boxed::new(alloc, right)?;
+    let (left, right) = box_both(alloc, left, right)?;
     Ok(Expr::Sum(sum, line, left, right))
 }
 
@@ -106,8 +105,7 @@ fn joined(alloc: Global, line: Line, op: BinOp, left: Expr, right: Expr) -> Resu
     let Some(how) = comparison_of(op) else {
         return added(alloc, line, op, left, right);
     };
-    let left = Boxed::new(alloc, left)?;
-    let right = Boxed::new(alloc, right)?;
+    let (left, right) = box_both(alloc, left, right)?;
     Ok(Expr::Test(how, line, left, right))
 }
 

@@ -10,7 +10,7 @@ use crate::unmade::Unmade;
 use c_syntax::{BinOp, PredNode, Term};
 use core_prog::Pred;
 use std::alloc::Global;
-use wp_base::Boxed;
+use wp_base::box_both;
 
 // One comparison of two terms.
 #[tactic(auto, using(core_prog::proofs::Equations::view_laws))]
@@ -71,8 +71,7 @@ pub fn pred_of(alloc: Global, pred: &c_syntax::Pred) -> Result<Pred, Unmade>
         PredNode::And(left, right) => {
             let left = pred_of(alloc, left.get())?;
             let right = comparison_in(alloc, right.get())?;
-            let left = Boxed::new(alloc, left)?;
-            let right = Boxed::new(alloc, right)?;
+            let (left, right) = box_both(alloc, left, right)?;
             Ok(Pred::And(left, right))
         }
         PredNode::True => Err(Unmade::Unbuilt),

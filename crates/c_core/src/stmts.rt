@@ -14,7 +14,7 @@ use crate::unmade::Unmade;
 use c_syntax::{CType, Expr, ExprNode, StmtNode, VarDecl};
 use core_prog::Stmt;
 use std::alloc::Global;
-use wp_base::{Boxed, Kind, List, NoMemory, Str};
+use wp_base::{Kind, List, NoMemory, Str, box_both};
 
 /// Whether a type is `int`.
 #[tactic(auto, using(c_syntax::proofs::Equations::expr_laws))]
@@ -143,8 +143,7 @@ fn asserted(alloc: Global, stmt: &c_syntax::Stmt, pred: &c_syntax::Pred) -> Resu
 fn chosen(alloc: Global, test: core_prog::Expr, first: Stmt, second: Stmt) -> Result<Stmt, NoMemory>
     ensures { IfOk result (λ stmt. view_stmt stmt ≡ t.choose (view_expr test) (view_stmt first) (view_stmt second)) }
 {
-    let first = Boxed::new(alloc, first)?;
-    let second = Boxed::new(alloc, second)?;
+    let (first, second) = box_both(alloc, first, second)?;
     Ok(Stmt::If(test, first, second))
 }
 

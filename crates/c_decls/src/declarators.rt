@@ -13,7 +13,7 @@ use c_grammar::{Fault, expect, new_name_at, punct_at};
 use c_syntax::{CType, Expr, Punct, Token, VarDecl};
 use c_types::{stars_at, type_at};
 use std::alloc::Global;
-use wp_base::{Boxed, Line, List, NoMemory, Str};
+use wp_base::{Line, List, NoMemory, Str, box_both};
 
 /// A declared name, without a value.
 pub fn declared(name: Str, ty: CType, line: Line) -> VarDecl
@@ -44,8 +44,7 @@ pub fn with_init(var: VarDecl, value: Expr) -> VarDecl
 pub fn array(alloc: Global, of: CType, length: Expr) -> Result<CType, NoMemory>
     ensures { IfOk result (λ x. view_ctype x ≡ e.array (view_ctype of) (view_expr length)) }
 {
-    let of = Boxed::new(alloc, of)?;
-    let length = Boxed::new(alloc, length)?;
+    let (of, length) = box_both(alloc, of, length)?;
     Ok(CType::Array(of, length))
 }
 

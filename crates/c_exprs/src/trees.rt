@@ -8,7 +8,7 @@ ghost use Rattle.c_syntax.specs.View.{view_ctype, view_expr};
 use crate::operators::Prefix;
 use c_syntax::{BinOp, CType, Expr, ExprNode};
 use std::alloc::Global;
-use wp_base::{Boxed, Line, List, NoMemory, Str};
+use wp_base::{Boxed, Line, List, NoMemory, Str, box_both, box_three};
 
 // A place that is assigned to, with the operator of the assignment and its line.
 #[derive(Drop)]
@@ -54,8 +54,7 @@ pub(crate) fn binary(
 ) -> Result<Expr, NoMemory>
     ensures { IfOk result (λ x. view_expr x ≡ e.binary line op (view_expr left) (view_expr right)) }
 {
-    let left = Boxed::new(alloc, left)?;
-    let right = Boxed::new(alloc, right)?;
+    let (left, right) = box_both(alloc, left, right)?;
     Ok(Expr {
         node: ExprNode::Binary(op, left, right),
         line,
@@ -72,9 +71,7 @@ pub(crate) fn conditional(
 ) -> Result<Expr, NoMemory>
     ensures { IfOk result (λ x. view_expr x ≡ e.cond line (view_expr test) (view_expr then_arm) (view_expr else_arm)) }
 {
-    let test = Boxed::new(alloc, test)?;
-    let then_arm = Boxed::new(alloc, then_arm)?;
-    let else_arm = Boxed::new(alloc, else_arm)?;
+    let (test, then_arm, else_arm) = box_three(alloc, test, then_arm, else_arm)?;
     Ok(Expr {
         node: ExprNode::Cond(test, then_arm, else_arm),
         line,
@@ -85,8 +82,7 @@ pub(crate) fn conditional(
 pub(crate) fn index(alloc: Global, line: Line, base: Expr, at: Expr) -> Result<Expr, NoMemory>
     ensures { IfOk result (λ x. view_expr x ≡ e.index line (view_expr base) (view_expr at)) }
 {
-    let base = Boxed::new(alloc, base)?;
-    let at = Boxed::new(alloc, at)?;
+    let (base, at) = box_both(alloc, base, at)?;
     Ok(Expr {
         node: ExprNode::Index(base, at),
         line,
@@ -155,8 +151,7 @@ pub(crate) fn call(name: Str, line: Line, args: List<Expr>) -> Expr
 fn assign(alloc: Global, place: Place, value: Expr) -> Result<Expr, NoMemory>
     ensures { IfOk result (λ x. view_expr x ≡ e.assign place.line place.op (view_expr place.to) (view_expr value)) }
 {
-    let to = Boxed::new(alloc, place.to)?;
-    let value = Boxed::new(alloc, value)?;
+    let (to, value) = box_both(alloc, place.to, value)?;
     Ok(Expr {
         node: ExprNode::Assign(place.op, to, value),
         line: place.line,

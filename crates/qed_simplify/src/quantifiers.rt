@@ -7,7 +7,7 @@ ghost use Rattle.qed_simplify.specs.View.{quantifier};
 
 use qed_terms::{Formula, Term};
 use std::alloc::Global;
-use wp_base::{Boxed, NoMemory, Str};
+use wp_base::{NoMemory, Str, box_three};
 
 #[tactic(auto, using(qed_terms::proofs::Equations::tree_laws))]
 pub fn for_all(
@@ -19,10 +19,9 @@ pub fn for_all(
 ) -> Result<Formula, NoMemory>
     ensures { IfOk result (λ formula. formula_tree formula ≡ node (h.Forall name.now) (three (term_tree low) (term_tree high) (formula_tree part))) }
 {
-    let low = Boxed::new(alloc, low)?;
-    let high = Boxed::new(alloc, high)?;
-    let part = Boxed::new(alloc, part)?;
-    Ok(Formula::Forall(name.copy(alloc)?, low, high, part))
+    let name = name.copy(alloc)?;
+    let (low, high, part) = box_three(alloc, low, high, part)?;
+    Ok(Formula::Forall(name, low, high, part))
 }
 
 #[tactic(auto, using(qed_terms::proofs::Equations::tree_laws))]
@@ -35,10 +34,9 @@ pub fn exists(
 ) -> Result<Formula, NoMemory>
     ensures { IfOk result (λ formula. formula_tree formula ≡ node (h.Exists name.now) (three (term_tree low) (term_tree high) (formula_tree part))) }
 {
-    let low = Boxed::new(alloc, low)?;
-    let high = Boxed::new(alloc, high)?;
-    let part = Boxed::new(alloc, part)?;
-    Ok(Formula::Exists(name.copy(alloc)?, low, high, part))
+    let name = name.copy(alloc)?;
+    let (low, high, part) = box_three(alloc, low, high, part)?;
+    Ok(Formula::Exists(name, low, high, part))
 }
 
 /// `forall`, or else `exists`.

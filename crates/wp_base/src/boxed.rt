@@ -41,3 +41,30 @@ impl<T: Drop> Boxed<T> {
         Ok(Boxed { inner })
     }
 }
+
+/// Both in boxes of their own.
+pub fn box_both<A: Drop, B: Drop>(
+    alloc: Global,
+    first: A,
+    second: B,
+) -> Result<(Boxed<A>, Boxed<B>), NoMemory>
+    ensures { IfOk result (λ boxes. (boxes.0 ≡ first) × (boxes.1 ≡ second)) }
+{
+    let first = Boxed::new(alloc, first)?;
+    let second = Boxed::new(alloc, second)?;
+    Ok((first, second))
+}
+
+/// All three in boxes of their own.
+pub fn box_three<A: Drop, B: Drop, C: Drop>(
+    alloc: Global,
+    first: A,
+    second: B,
+    third: C,
+) -> Result<(Boxed<A>, Boxed<B>, Boxed<C>), NoMemory>
+    ensures { IfOk result (λ boxes. (boxes.0 ≡ first) × (boxes.1 ≡ second) × (boxes.2 ≡ third)) }
+{
+    let (first, second) = box_both(alloc, first, second)?;
+    let third = Boxed::new(alloc, third)?;
+    Ok((first, second, third))
+}

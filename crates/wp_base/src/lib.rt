@@ -9,7 +9,7 @@ mod memory;
 mod text;
 
 pub use answers::{Line, Refusal, Rule, Status, Stop};
-pub use boxed::Boxed;
+pub use boxed::{Boxed, box_both, box_three};
 pub use kinds::{CellKind, Kind, Layout};
 pub use list::List;
 pub use memory::NoMemory;

@@ -18,13 +18,13 @@ use Rattle.acsl_terms.specs.Read.{term_at, entry_at}
 use Rattle.acsl_terms.proofs.Laws.{term_complete, entry_complete}
 use Rattle.acsl_preds.specs.Next.{ends_pred}
 use Rattle.acsl_preds.specs.Read.{pred_at}
-use Rattle.acsl_parser.specs.declared.words.Part.{Part}
+use Rattle.acsl_clauses.specs.declared.items.Part.{Part}
 use Rattle.acsl_parser.specs.declared.words.ClauseWord.{ClauseWord}
 use Rattle.acsl_parser.specs.declared.words.ClauseWord.TheVariants as cw
 use Rattle.acsl_parser.specs.declared.words.LoopWord.{LoopWord}
 use Rattle.acsl_parser.specs.declared.words.LoopWord.TheVariants as lw
 use Rattle.acsl_parser.specs.Lists.{separated_at, worded, is_some}
-use Rattle.acsl_parser.specs.Sorts.{Sorted, sorted_of, is_in}
+use Rattle.acsl_clauses.specs.Sorts.{Sorted, sorted_of, is_in}
 use Rattle.acsl_parser.specs.Read as s
 use Rattle.acsl_parser.proofs.Separating.{separated_complete}
 use Rattle.acsl_parser.proofs.Repeating.{RepeatedAt, none, more, Repeats, repeat_complete}

@@ -7,7 +7,7 @@ use Rattle.c_syntax.specs.Contract.{LoopAnnot}
 use Rattle.c_grammar.specs.Tokens.{Names, name, annot_close}
 use Rattle.c_grammar.specs.Annots as g
 use Rattle.c_grammar.specs.Reading.{keyword_at}
-use Rattle.acsl_parser.specs.Sorts.{is_in}
+use Rattle.acsl_clauses.specs.Sorts.{is_in}
 use Rattle.acsl_parser.specs.Read as s
 use Rattle.acsl_parser.proofs.CompleteParts.{NoPart}
 

@@ -19,13 +19,13 @@ use Rattle.c_types.proofs.Tokens.{punct_is, name_is, new_name_is}
 use Rattle.acsl_terms.specs.Read.{term_at}
 use Rattle.acsl_terms.proofs.Laws.{term_sound}
 use Rattle.acsl_preds.specs.Read.{pred_at, typed_at}
-use Rattle.acsl_parser.specs.declared.words.Part.TheVariants as part
+use Rattle.acsl_clauses.specs.declared.items.Part.TheVariants as part
 use Rattle.acsl_parser.specs.declared.words.EndWord.{EndWord}
 use Rattle.acsl_parser.specs.declared.words.EndWord.TheVariants as ew
 use Rattle.acsl_parser.specs.declared.words.LogicWord.{LogicWord}
 use Rattle.acsl_parser.specs.declared.words.LogicWord.TheVariants as gw
 use Rattle.acsl_parser.specs.Lists.{separated_at, worded, repeat}
-use Rattle.acsl_parser.specs.Sorts.{Sorted, sorted_of, is_in, behavior_of, loop_made, contract_made}
+use Rattle.acsl_clauses.specs.Sorts.{Sorted, sorted_of, is_in, behavior_of, loop_made, contract_made}
 use Rattle.acsl_parser.specs.Read as s
 use Rattle.acsl_parser.proofs.Separating.{separated_sound}
 use Rattle.acsl_parser.proofs.Repeating.{RepeatedAt, none, more, SoundAt, repeat_sound}

@@ -1,5 +1,4 @@
 pub mod Lists
-pub mod Sorts
 pub mod Read
 pub mod Views
 pub mod Spelled

@@ -3,11 +3,12 @@ ghost use Rattle.std.specs.Prelude.{◌≡◌, ◌-◌, length, map};
 ghost use Rattle.c_syntax.specs.View.{view_behavior};
 ghost use Rattle.c_grammar.specs.Views.{Gives};
 ghost use Rattle.acsl_parser.specs.Read as spec;
-ghost use Rattle.acsl_parser.specs.Sorts.{behavior_of};
-ghost use Rattle.acsl_parser.specs.Views.{view_sorted};
+ghost use Rattle.acsl_clauses.specs.Sorts.{behavior_of};
+ghost use Rattle.acsl_clauses.specs.Views.{view_sorted};
 
-use crate::sorted::{Sorted, first_assigns, part_at};
-use crate::words::{Part, place_of, starts_behavior};
+use crate::part::part_at;
+use crate::words::{place_of, starts_behavior};
+use acsl_clauses::{Part, Sorted, first_assigns};
 use c_grammar::{Fault, expect, keyword_at, new_name_at};
 use c_syntax::{Behavior, Punct, Token};
 use std::alloc::Global;

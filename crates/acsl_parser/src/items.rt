@@ -3,27 +3,15 @@ ghost use Rattle.std.specs.Prelude.{◌≡◌, ◌≤◌, ◌-◌, length, map};
 ghost use Rattle.c_syntax.specs.View.{view_clause};
 ghost use Rattle.c_grammar.specs.Views.{Gives};
 ghost use Rattle.acsl_parser.specs.Read as spec;
-ghost use Rattle.acsl_parser.specs.Views.{view_item};
+ghost use Rattle.acsl_clauses.specs.Views.{view_item};
 
 use crate::clauses::{assigns_at, pred_ended, term_ended};
 use crate::words::{ClauseWord, LoopWord, clause_word_at, loop_word_at, place_of, starts_item};
+use acsl_clauses::Item;
 use c_grammar::Fault;
 use c_syntax::{AssignsClause, Clause, Measure, Pred, Term, Token};
 use std::alloc::Global;
 use wp_base::{Line, List, Str};
-
-/// A clause of a contract, a behavior or a loop.
-#[derive(Drop)]
-pub enum Item {
-    Requires(Clause),
-    Ensures(Clause),
-    Assumes(Clause),
-    Invariant(Clause),
-    Assigns(AssignsClause),
-    LoopAssigns(AssignsClause),
-    Decreases(Measure),
-    Variant(Measure),
-}
 
 fn clause_of(pred: Pred, place: usize, line: Line) -> Clause
     ensures { result ≡ record { pred = pred; line = line; place = place } }

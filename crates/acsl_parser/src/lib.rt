@@ -8,8 +8,8 @@ mod clauses;
 mod endings;
 mod items;
 mod logics;
+mod part;
 mod places;
-mod sorted;
 mod words;
 
 pub use annots::{assert_at, contract_at, logic_at, logics_at, loop_at};

@@ -32,14 +32,6 @@ const PREDICATE: &[u8] = b"predicate";
 
 const LOGIC: &[u8] = b"logic";
 
-/// What clauses stand in.
-#[derive(Clone, Copy)]
-pub enum Part {
-    Contract,
-    Behavior,
-    Loop,
-}
-
 /// The words of clauses.
 #[derive(Clone, Copy)]
 pub enum ClauseWord {

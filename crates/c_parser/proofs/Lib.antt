@@ -1,8 +1,3 @@
-pub mod Tokens
-pub mod Sound
 pub mod Reading
-pub mod FirstTokens
-pub mod Parts
-pub mod Complete
 pub mod Exact
 pub mod PastLimits

@@ -1,3 +1,1 @@
-pub mod Read
-pub mod Views
 pub mod Outcome

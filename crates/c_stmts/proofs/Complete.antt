@@ -24,10 +24,12 @@ use Rattle.c_types.specs.Read.{starts_type}
 use Rattle.c_exprs.specs.Read.{expr_at, cond_at}
 use Rattle.c_decls.specs.Read.{variables_at}
 use Rattle.acsl_parser.specs.Read.{loop_at, assert_at}
-use Rattle.c_stmts.specs.declared.forms.Form.{Form}
-use Rattle.c_stmts.specs.declared.forms.Form.TheVariants as form
+use Rattle.c_stmt_parts.specs.declared.forms.Form.{Form}
+use Rattle.c_stmt_parts.specs.declared.forms.Form.TheVariants as form
+use Rattle.c_stmt_parts.specs.Read as parts_of
 use Rattle.c_stmts.specs.Read as r
-use Rattle.c_stmts.specs.Read.{Starting, Inside, form_of}
+use Rattle.c_stmt_parts.specs.Read.{form_of}
+use Rattle.c_stmts.specs.Read.{Starting, Inside}
 use Rattle.c_stmts.proofs.Tokens.{first_line_front}
 use Rattle.c_stmts.proofs.Turns.{stmt_is}
 use Rattle.c_stmts.proofs.Starts.{may_begin, First, expr_first, begins_value, closes, punct_here, no_close, keyed, Begins, keyed_first, value_first, stmt_begun}
@@ -92,79 +94,79 @@ variables_some (d.variables line {first} {second} {all} st ss eq) =
 -- ---- parts of statements
 
 pub ended_complete : (types : Names) → Whole types → (room : ℕ) (q : Punct) → closes q ≡ true → {xs : List Token} {a : ex.Expr} → SpellsExpr types room xs a → (line : ℕ) (rest : List Token)
-    → r.ended_at types room q (xs ++ punct q line ∷ rest) ≡ Some (a, rest)
-unfolding r.ended_at
+    → parts_of.ended_at types room q (xs ++ punct q line ∷ rest) ≡ Some (a, rest)
+unfolding parts_of.ended_at
 ended_complete types whole room q c {xs} {a} s line rest =
     ap (λ o. o >>= λ a. punct_at q a.1 >>= λ x. Some (a.0, x.1)) (whole.expr_complete room xs a s q c line rest)
     ∙ ap (λ o. o >>= λ x. Some (a, x.1)) (punct_here q line rest c)
 
 pub test_complete : (types : Names) → Whole types → (room : ℕ) {xs : List Token} {a : ex.Expr} → SpellsExpr types room xs a → (line line' : ℕ) (rest : List Token)
-    → r.test_at types room (punct p.OpenParen line ∷ (xs ++ punct p.CloseParen line' ∷ rest)) ≡ Some (a, rest)
-unfolding r.test_at
+    → parts_of.test_at types room (punct p.OpenParen line ∷ (xs ++ punct p.CloseParen line' ∷ rest)) ≡ Some (a, rest)
+unfolding parts_of.test_at
 test_complete types whole room s line line' rest = ended_complete types whole room p.CloseParen refl s line' rest
 
 pub optional_complete : (types : Names) → Whole types → (room : ℕ) (q : Punct) → closes q ≡ true → {xs : List Token} {a : Option ex.Expr} → SpellsOptional types room xs a → (line : ℕ) (rest : List Token)
-    → r.optional_at types room q (xs ++ punct q line ∷ rest) ≡ Some (a, rest)
-unfolding r.optional_at
+    → parts_of.optional_at types room q (xs ++ punct q line ∷ rest) ≡ Some (a, rest)
+unfolding parts_of.optional_at
 optional_complete types whole room q c g.none line rest =
-    ap (λ o. r.optional_by o (r.ended_at types room q (punct q line ∷ rest))) (punct_here q line rest c)
+    ap (λ o. parts_of.optional_by o (parts_of.ended_at types room q (punct q line ∷ rest))) (punct_here q line rest c)
 optional_complete types whole room q c (g.some {all} {a} s) line rest =
     let ts = all ++ punct q line ∷ rest in
-    ap (λ o. r.optional_by o (r.ended_at types room q ts)) (no_close q all (punct q line ∷ rest) c (expr_first s))
+    ap (λ o. parts_of.optional_by o (parts_of.ended_at types room q ts)) (no_close q all (punct q line ∷ rest) c (expr_first s))
     ∙ ap (λ o. o >>= λ a. Some (Some a.0, a.1)) (ended_complete types whole room q c s line rest)
 
 abbrev as_expr : (line : ℕ) → Option (ex.Expr × List Token) → Option (tree.Stmt × List Token)
 as_expr line o = o >>= λ a. Some (tree.expr line a.0, a.1)
 
 pub value_complete : (types : Names) → Whole types → (room : ℕ) {xs : List Token} {a : ex.Expr} → SpellsExpr types room xs a → (line : ℕ) (all rest : List Token) → all ≡ xs ++ punct p.Semicolon line ∷ []
-    → r.value_at types room (all ++ rest) ≡ Some (tree.expr (first_line all) a, rest)
-unfolding r.value_at
+    → parts_of.value_at types room (all ++ rest) ≡ Some (tree.expr (first_line all) a, rest)
+unfolding parts_of.value_at
 value_complete types whole room {xs} {a} s line all rest eq =
     let semi = punct p.Semicolon line in
     let same : all ++ rest ≡ xs ++ semi ∷ rest = ap (λ l. l ++ rest) eq ∙ append_assoc xs (semi ∷ []) rest in
     let on : first_line (all ++ rest) ≡ first_line all = first_line_front all rest (omega (arith, ap length eq, length-append xs (semi ∷ []))) in
-    ap (λ ts. as_expr (first_line (all ++ rest)) (r.ended_at types room p.Semicolon ts)) same
+    ap (λ ts. as_expr (first_line (all ++ rest)) (parts_of.ended_at types room p.Semicolon ts)) same
     ∙ ap (as_expr (first_line (all ++ rest))) (ended_complete types whole room p.Semicolon refl s line rest)
     ∙ ap (λ line. Some (tree.expr line a, rest)) on
 
 pub locals_complete : (types : Names) → Whole types → (room : ℕ) {xs : List Token} {vs : List ex.VarDecl} → SpellsVariables types room xs vs → (rest : List Token)
-    → r.locals_at types room (xs ++ rest) ≡ Some (tree.locals (first_line xs) vs, rest)
-unfolding r.locals_at
+    → parts_of.locals_at types room (xs ++ rest) ≡ Some (tree.locals (first_line xs) vs, rest)
+unfolding parts_of.locals_at
 locals_complete types whole room {xs} {vs} s rest =
     ap (λ o. o >>= λ vs. Some (tree.locals (first_line (xs ++ rest)) vs.0, vs.1)) (whole.variables_complete room xs vs s rest)
     ∙ ap (λ line. Some (tree.locals line vs, rest)) (first_line_front xs rest (variables_some s))
 
-first_complete : (types : Names) → Whole types → (room : ℕ) {xs : List Token} {i : tree.Stmt} → SpellsFirst types room xs i → (rest : List Token) → r.first_at types room (xs ++ rest) ≡ Some (i, rest)
-unfolding r.first_at
+first_complete : (types : Names) → Whole types → (room : ℕ) {xs : List Token} {i : tree.Stmt} → SpellsFirst types room xs i → (rest : List Token) → parts_of.first_at types room (xs ++ rest) ≡ Some (i, rest)
+unfolding parts_of.first_at
 first_complete types whole room g.nothing rest = refl
 first_complete types whole room (g.expr line' {value} {all} {a} s eq) rest =
     let semi = punct p.Semicolon line' in
     let same : all ++ rest ≡ value ++ semi ∷ rest = ap (λ l. l ++ rest) eq ∙ append_assoc value (semi ∷ []) rest in
     let none : punct_at p.Semicolon (all ++ rest) ≡ None = ap (punct_at p.Semicolon) same ∙ no_close p.Semicolon value (semi ∷ rest) refl (expr_first s) in
     let other : starts_type types (all ++ rest) ≡ false = ap (starts_type types) same ∙ whole.expr_starts room value a s (semi ∷ rest) in
-    ap (λ o. r.first_by o (starts_type types (all ++ rest)) (r.locals_at types room (all ++ rest)) (r.value_at types room (all ++ rest))) none
-    ∙ ap (λ b. r.first_by None b (r.locals_at types room (all ++ rest)) (r.value_at types room (all ++ rest))) other
+    ap (λ o. parts_of.first_by o (starts_type types (all ++ rest)) (parts_of.locals_at types room (all ++ rest)) (parts_of.value_at types room (all ++ rest))) none
+    ∙ ap (λ b. parts_of.first_by None b (parts_of.locals_at types room (all ++ rest)) (parts_of.value_at types room (all ++ rest))) other
     ∙ value_complete types whole room s line' all rest eq
 first_complete types whole room (g.variables {all} {vs} s) rest =
     let is : starts_type types (all ++ rest) ≡ true = whole.variables_start room all vs s rest in
-    ap (λ o. r.first_by o (starts_type types (all ++ rest)) (r.locals_at types room (all ++ rest)) (r.value_at types room (all ++ rest))) (no_semicolon_at types whole (all ++ rest) is)
-    ∙ ap (λ b. r.first_by None b (r.locals_at types room (all ++ rest)) (r.value_at types room (all ++ rest))) is
+    ap (λ o. parts_of.first_by o (starts_type types (all ++ rest)) (parts_of.locals_at types room (all ++ rest)) (parts_of.value_at types room (all ++ rest))) (no_semicolon_at types whole (all ++ rest) is)
+    ∙ ap (λ b. parts_of.first_by None b (parts_of.locals_at types room (all ++ rest)) (parts_of.value_at types room (all ++ rest))) is
     ∙ locals_complete types whole room s rest
 
 pub head_complete : (types : Names) → Whole types → (room : ℕ) {first test next : List Token} {i : tree.Stmt} {c n : Option ex.Expr} → SpellsFirst types room first i → SpellsOptional types room test c → SpellsOptional types room next n
     → (line line' line'' : ℕ) (rest : List Token)
-    → r.head_at types room (punct p.OpenParen line ∷ (first ++ (test ++ punct p.Semicolon line' ∷ (next ++ punct p.CloseParen line'' ∷ rest)))) ≡ Some ((i, c, n), rest)
-unfolding r.head_at
+    → parts_of.head_at types room (punct p.OpenParen line ∷ (first ++ (test ++ punct p.Semicolon line' ∷ (next ++ punct p.CloseParen line'' ∷ rest)))) ≡ Some ((i, c, n), rest)
+unfolding parts_of.head_at
 head_complete types whole room {first} {test} {next} {i} {c} {n} si sc sn line line' line'' rest =
     let after = next ++ punct p.CloseParen line'' ∷ rest in
-    ap (λ o. o >>= λ i. r.optional_at types room p.Semicolon i.1 >>= λ c. r.optional_at types room p.CloseParen c.1 >>= λ n. Some ((i.0, c.0, n.0), n.1))
+    ap (λ o. o >>= λ i. parts_of.optional_at types room p.Semicolon i.1 >>= λ c. parts_of.optional_at types room p.CloseParen c.1 >>= λ n. Some ((i.0, c.0, n.0), n.1))
     (first_complete types whole room si (test ++ punct p.Semicolon line' ∷ after))
-    ∙ ap (λ o. o >>= λ c. r.optional_at types room p.CloseParen c.1 >>= λ n. Some ((i, c.0, n.0), n.1)) (optional_complete types whole room p.Semicolon refl sc line' after)
+    ∙ ap (λ o. o >>= λ c. parts_of.optional_at types room p.CloseParen c.1 >>= λ n. Some ((i, c.0, n.0), n.1)) (optional_complete types whole room p.Semicolon refl sc line' after)
     ∙ ap (λ o. o >>= λ n. Some ((i, c, n.0), n.1)) (optional_complete types whole room p.CloseParen refl sn line'' rest)
 
 pub do_end_complete : (types : Names) → Whole types → (room : ℕ) {xs : List Token} {a : ex.Expr} → SpellsExpr types room xs a → (line line' line'' line''' : ℕ) (rest : List Token)
-    → r.do_end_at types room (word w.While line ∷ punct p.OpenParen line' ∷ (xs ++ punct p.CloseParen line'' ∷ punct p.Semicolon line''' ∷ rest)) ≡ Some (a, rest)
-unfolding r.do_end_at
+    → parts_of.do_end_at types room (word w.While line ∷ punct p.OpenParen line' ∷ (xs ++ punct p.CloseParen line'' ∷ punct p.Semicolon line''' ∷ rest)) ≡ Some (a, rest)
+unfolding parts_of.do_end_at
 do_end_complete types whole room s line line' line'' line''' rest =
     ap (λ o. o >>= λ e. punct_at p.Semicolon e.1 >>= λ y. Some (e.0, y.1)) (test_complete types whole room s line' line'' (punct p.Semicolon line''' ∷ rest))
 
@@ -172,8 +174,8 @@ do_end_complete types whole room s line line' line'' line''' rest =
 
 -- read with the line of its first token
 pub plain_is : (types : Names) (end room : ℕ) (loops breaks : Bool) (starts : List ℕ) (t : Token) (ts : List Token) (f : Form) → form_of t.kind ≡ f
-    → ((inner : Inside) → r.stmt_by types end room inner loops breaks t.line f (starts ++ t.line ∷ []) ts (t ∷ ts) ≡ r.beside (starts ++ t.line ∷ []) (r.plain_at types room loops breaks (t ∷ ts)))
-    → r.stmt types end room loops breaks starts (t ∷ ts) ≡ r.beside (starts ++ t.line ∷ []) (r.plain_at types room loops breaks (t ∷ ts))
+    → ((inner : Inside) → r.stmt_by types end room inner loops breaks t.line f (starts ++ t.line ∷ []) ts (t ∷ ts) ≡ r.beside (starts ++ t.line ∷ []) (parts_of.plain_at types room loops breaks (t ∷ ts)))
+    → r.stmt types end room loops breaks starts (t ∷ ts) ≡ r.beside (starts ++ t.line ∷ []) (parts_of.plain_at types room loops breaks (t ∷ ts))
 plain_is types end room loops breaks starts t ts f eq h =
     let inner = r.stmt types end (room - 1) in
     stmt_is types end room loops breaks starts (t ∷ ts)
@@ -187,44 +189,44 @@ ReadsStmt types end loops breaks room at xs a own =
     → r.stmt types end room loops breaks starts (xs ++ rest) ≡ Some ((a, starts ++ own), rest)
 
 pub read_empty : (types : Names) (end : ℕ) (loops breaks : Bool) (room at line : ℕ) → ReadsStmt types end loops breaks room at (punct p.Semicolon line ∷ []) (tree.empty line) (line ∷ [])
-unfolding r.plain_at
+unfolding parts_of.plain_at
 read_empty types end loops breaks room at line starts rest place taken =
     plain_is types end room loops breaks starts (punct p.Semicolon line) rest form.Empty refl (λ inner. refl)
 
 pub read_break : (types : Names) (end : ℕ) (loops breaks : Bool) (room at line line' : ℕ) → breaks ≡ true → ReadsStmt types end loops breaks room at (word w.Break line ∷ punct p.Semicolon line' ∷ []) (tree.break line) (line ∷ [])
-unfolding r.plain_at r.break_at
+unfolding parts_of.plain_at parts_of.break_at
 read_break types end loops breaks room at line line' h starts rest place taken =
     plain_is types end room loops breaks starts (word w.Break line) (punct p.Semicolon line' ∷ rest) form.Break refl (λ inner. refl)
-    ∙ ap (λ b. r.beside (starts ++ line ∷ []) (r.jump_at b (tree.break line) (punct p.Semicolon line' ∷ rest))) h
+    ∙ ap (λ b. r.beside (starts ++ line ∷ []) (parts_of.jump_at b (tree.break line) (punct p.Semicolon line' ∷ rest))) h
 
 pub read_continue : (types : Names) (end : ℕ) (loops breaks : Bool) (room at line line' : ℕ) → loops ≡ true
     → ReadsStmt types end loops breaks room at (word w.Continue line ∷ punct p.Semicolon line' ∷ []) (tree.continue line) (line ∷ [])
-unfolding r.plain_at r.continue_at
+unfolding parts_of.plain_at parts_of.continue_at
 read_continue types end loops breaks room at line line' h starts rest place taken =
     plain_is types end room loops breaks starts (word w.Continue line) (punct p.Semicolon line' ∷ rest) form.Continue refl (λ inner. refl)
-    ∙ ap (λ b. r.beside (starts ++ line ∷ []) (r.jump_at b (tree.continue line) (punct p.Semicolon line' ∷ rest))) h
+    ∙ ap (λ b. r.beside (starts ++ line ∷ []) (parts_of.jump_at b (tree.continue line) (punct p.Semicolon line' ∷ rest))) h
 
 pub read_return : (types : Names) → Whole types → (end : ℕ) (loops breaks : Bool) (room at line line' : ℕ) {value : List Token} {a : Option ex.Expr} → SpellsOptional types room value a
     → ReadsStmt types end loops breaks room at (word w.Return line ∷ (value ++ punct p.Semicolon line' ∷ [])) (tree.return_of line a) (line ∷ [])
-unfolding r.plain_at r.return_at
+unfolding parts_of.plain_at parts_of.return_at
 read_return types whole end loops breaks room at line line' {value} {a} s starts rest place taken =
     let semi = punct p.Semicolon line' in
     plain_is types end room loops breaks starts (word w.Return line) ((value ++ semi ∷ []) ++ rest) form.Return refl (λ inner. refl)
-    ∙ ap (λ ts. r.beside (starts ++ line ∷ []) (r.return_at types room line ts)) (append_assoc value (semi ∷ []) rest)
+    ∙ ap (λ ts. r.beside (starts ++ line ∷ []) (parts_of.return_at types room line ts)) (append_assoc value (semi ∷ []) rest)
     ∙ ap (λ o. r.beside (starts ++ line ∷ []) (o >>= λ a. Some (tree.return_of line a.0, a.1))) (optional_complete types whole room p.Semicolon refl s line' rest)
 
 -- an expression begins with a token that begins no other statement
 value_by : (types : Names) (end : ℕ) (loops breaks : Bool) (room : ℕ) (starts : List ℕ) (t : Token) (ts : List Token) → form_of t.kind ≡ form.Value
-    → r.stmt types end room loops breaks starts (t ∷ ts) ≡ r.beside (starts ++ t.line ∷ []) (r.value_at types room (t ∷ ts))
-unfolding r.plain_at
+    → r.stmt types end room loops breaks starts (t ∷ ts) ≡ r.beside (starts ++ t.line ∷ []) (parts_of.value_at types room (t ∷ ts))
+unfolding parts_of.plain_at
 value_by types end loops breaks room starts t ts h =
     plain_is types end room loops breaks starts t ts form.Value h (λ inner. refl)
-    ∙ ap (λ f. r.beside (starts ++ t.line ∷ []) (r.plain_by types room loops breaks t.line f ts (t ∷ ts))) h
+    ∙ ap (λ f. r.beside (starts ++ t.line ∷ []) (parts_of.plain_by types room loops breaks t.line f ts (t ∷ ts))) h
 
 value_here : (types : Names) (end : ℕ) (loops breaks : Bool) (room : ℕ) (starts : List ℕ) (xs : List Token) → First may_begin xs
-    → r.stmt types end room loops breaks starts xs ≡ r.beside (starts ++ first_line xs ∷ []) (r.value_at types room xs)
+    → r.stmt types end room loops breaks starts xs ≡ r.beside (starts ++ first_line xs ∷ []) (parts_of.value_at types room xs)
 value_here types end loops breaks room starts xs f =
-    subst (λ xs. r.stmt types end room loops breaks starts xs ≡ r.beside (starts ++ first_line xs ∷ []) (r.value_at types room xs)) (sym f.all)
+    subst (λ xs. r.stmt types end room loops breaks starts xs ≡ r.beside (starts ++ first_line xs ∷ []) (parts_of.value_at types room xs)) (sym f.all)
     (value_by types end loops breaks room starts (token f.kind f.line) f.rest (begins_value f.kind f.holds))
 
 longer : (xs ys all : List Token) → all ≡ xs ++ ys → First may_begin xs → First may_begin all
@@ -250,10 +252,10 @@ assert_starts (annots.assert {line} line' {inside} {all} s eq) rest =
     ((line, tail), ap (λ l. keyword_at (codes "assert") (l ++ rest)) eq)
 
 assertion_complete : (types : Names) → Whole types → (room : ℕ) {xs : List Token} {a : Pred} {line : ℕ} → SpellsAssert types room xs a line → (line' : ℕ) (rest : List Token)
-    → r.assertion_at types room (xs ++ annot_close line' ∷ rest) ≡ Some (tree.assert line a, rest)
-unfolding r.assertion_at
+    → parts_of.assertion_at types room (xs ++ annot_close line' ∷ rest) ≡ Some (tree.assert line a, rest)
+unfolding parts_of.assertion_at
 assertion_complete types whole room {xs} {a} {line} s line' rest =
-    ap (λ o. o >>= λ a. r.annot_close_at a.1 >>= λ x. Some (tree.assert a.0.1 a.0.0, x.1)) (whole.assert_complete room xs (a, line) s line' rest)
+    ap (λ o. o >>= λ a. parts_of.annot_close_at a.1 >>= λ x. Some (tree.assert a.0.1 a.0.0, x.1)) (whole.assert_complete room xs (a, line) s line' rest)
 
 pub read_assert : (types : Names) → Whole types → (end : ℕ) (loops breaks : Bool) (room at line line' line'' : ℕ) {inside : List Token} {a : Pred} → SpellsAssert types room inside a line
     → ReadsStmt types end loops breaks room at (annot_open line' ∷ (inside ++ annot_close line'' ∷ [])) (tree.assert line a) (line' ∷ [])
@@ -270,10 +272,10 @@ read_assert types whole end loops breaks room at line line' line'' {inside} {a} 
     ∙ ap (r.beside now) (assertion_complete types whole room s line'' rest)
 
 pub loop_annot_complete : (types : Names) → Whole types → (room end at : ℕ) {xs : List Token} {a : LoopAnnot} → SpellsLoop types room at xs a → (line : ℕ) (rest : List Token)
-    → at + length (xs ++ annot_close line ∷ rest) ≡ end → r.loop_annot_at types room end (xs ++ annot_close line ∷ rest) ≡ Some (a, rest)
-unfolding r.loop_annot_at
+    → at + length (xs ++ annot_close line ∷ rest) ≡ end → parts_of.loop_annot_at types room end (xs ++ annot_close line ∷ rest) ≡ Some (a, rest)
+unfolding parts_of.loop_annot_at
 loop_annot_complete types whole room end at {xs} {a} s line rest place =
     let ts = xs ++ annot_close line ∷ rest in
     let within : nat_le (length ts) end ≡ true = grind (arith, nat_tests) in
-    ap (λ b. cond b (loop_at types room end ts >>= λ a. r.annot_close_at a.1 >>= λ x. Some (a.0, x.1)) None) within
-    ∙ ap (λ o. o >>= λ a. r.annot_close_at a.1 >>= λ x. Some (a.0, x.1)) (whole.loop_complete room end at xs a s line rest place)
+    ap (λ b. cond b (loop_at types room end ts >>= λ a. parts_of.annot_close_at a.1 >>= λ x. Some (a.0, x.1)) None) within
+    ∙ ap (λ o. o >>= λ a. parts_of.annot_close_at a.1 >>= λ x. Some (a.0, x.1)) (whole.loop_complete room end at xs a s line rest place)

@@ -18,10 +18,12 @@ use Rattle.c_grammar.specs.Stmts.{SpellsOptional, SpellsFirst, SpellsLoopAnnot, 
 use Rattle.c_grammar.specs.Reading.{Reader, ◌>>=◌, punct_at, word_at, keyword_at}
 use Rattle.c_types.specs.Read.{starts_type}
 use Rattle.c_exprs.specs.Read.{cond_at}
-use Rattle.c_stmts.specs.declared.forms.Form.{Form}
-use Rattle.c_stmts.specs.declared.forms.Form.TheVariants as form
+use Rattle.c_stmt_parts.specs.declared.forms.Form.{Form}
+use Rattle.c_stmt_parts.specs.declared.forms.Form.TheVariants as form
+use Rattle.c_stmt_parts.specs.Read as parts_of
 use Rattle.c_stmts.specs.Read as r
-use Rattle.c_stmts.specs.Read.{Starting, Inside, form_of, Body, most_inside}
+use Rattle.c_stmt_parts.specs.Read.{form_of}
+use Rattle.c_stmts.specs.Read.{Starting, Inside, Body, most_inside}
 use Rattle.c_stmts.proofs.Tokens.{first_line_front}
 use Rattle.c_stmts.proofs.Turns.{deep_by, deep_annotated, deep_is, stmts_go}
 use Rattle.c_stmts.proofs.Starts.{Goes, stmt_goes, stmt_some, stmt_begun, no_open}
@@ -79,7 +81,7 @@ local_item : (types : Names) → Whole types → (end room at : ℕ) (inner : St
 unfolding r.item
 local_item types whole end room at inner {xs} {vs} s starts rest place taken =
     ap (λ b. r.local_by b types room starts (xs ++ rest) (inner starts (xs ++ rest))) (whole.variables_start room xs vs s rest)
-    ∙ ap (λ line. r.beside (starts ++ line ∷ []) (r.locals_at types room (xs ++ rest))) (first_line_front xs rest (variables_some s))
+    ∙ ap (λ line. r.beside (starts ++ line ∷ []) (parts_of.locals_at types room (xs ++ rest))) (first_line_front xs rest (variables_some s))
     ∙ ap (r.beside (starts ++ first_line xs ∷ [])) (locals_complete types whole room s rest)
 
 -- an item of a `switch`
@@ -95,7 +97,7 @@ stmt_behind types end loops room at {xs} s reads starts rest place taken =
 
 case_item : (types : Names) → Whole types → (end room at line line' : ℕ) (inner : Starting tree.Stmt) {value : List Token} {a : ex.Expr} → SpellsCond types room value a
     → ReadsItem (r.item types room true inner) end at (word w.Case line ∷ (value ++ punct p.Colon line' ∷ [])) (tree.case_of line a) []
-unfolding r.item r.case_at
+unfolding r.item parts_of.case_at
 case_item types whole end room at line line' inner {value} {a} s starts rest place taken =
     ap (λ ts. r.beside starts (cond_at types room ts >>= λ a. punct_at p.Colon a.1 >>= λ x. Some (tree.case_of line a.0, x.1))) (append_assoc value (punct p.Colon line' ∷ []) rest)
     ∙ ap (λ o. r.beside starts (o >>= λ a. punct_at p.Colon a.1 >>= λ x. Some (tree.case_of line a.0, x.1))) (whole.cond_complete room value a s line' rest)
@@ -103,7 +105,7 @@ case_item types whole end room at line line' inner {value} {a} s starts rest pla
 
 default_item : (types : Names) (end room at line line' : ℕ) (inner : Starting tree.Stmt)
     → ReadsItem (r.item types room true inner) end at (word w.Default line ∷ punct p.Colon line' ∷ []) (tree.default line) []
-unfolding r.item r.default_at
+unfolding r.item parts_of.default_at
 default_item types end room at line line' inner starts rest place taken =
     ap (λ starts. Some ((tree.default line, starts), rest)) (sym (append-nil starts))
 
@@ -193,7 +195,7 @@ read_if_only types whole end loops breaks room at line line' line'' one {test} {
     let long' = length-append test (close' ∷ (one ++ rest)) in
     let none = taken refl in
     deep types end room loops breaks starts (word w.If line) (open' ∷ ((test ++ close' ∷ one) ++ rest))
-    ∙ ap (λ ts. r.test_at types room (open' ∷ ts) >>= λ e. chosen types room inner line e.0 (r.body types room inner now e.1)) same
+    ∙ ap (λ ts. parts_of.test_at types room (open' ∷ ts) >>= λ e. chosen types room inner line e.0 (r.body types room inner now e.1)) same
     ∙ ap (λ o. o >>= λ e. chosen types room inner line e.0 (r.body types room inner now e.1)) (test_complete types whole room s line' line'' (one ++ rest))
     ∙ ap (chosen types room inner line e) (reads now rest (omega (arith, place, long, long')) (λ t. none))
     ∙ ap (λ o. otherwise_of line e a (r.otherwise_by o types room inner (now ++ own) rest)) none
@@ -218,7 +220,7 @@ read_if_else types whole end loops breaks room at line line' line'' line''' one 
     let grouped : ((starts ++ line ∷ []) ++ own) ++ own' ≡ starts ++ line ∷ (own ++ own') = simp append_assoc in
     let never : ends_short a ≡ true → word_at w.Else (els ∷ (two ++ rest)) ≡ None = λ t. absurd cc in
     deep types end room loops breaks starts (word w.If line) (open' ∷ ((test ++ close' ∷ (one ++ els ∷ two)) ++ rest))
-    ∙ ap (λ ts. r.test_at types room (open' ∷ ts) >>= λ e. chosen types room inner line e.0 (r.body types room inner now e.1)) same
+    ∙ ap (λ ts. parts_of.test_at types room (open' ∷ ts) >>= λ e. chosen types room inner line e.0 (r.body types room inner now e.1)) same
     ∙ ap (λ o. o >>= λ e. chosen types room inner line e.0 (r.body types room inner now e.1)) (test_complete types whole room s line' line'' tail)
     ∙ ap (chosen types room inner line e) (reads now (els ∷ (two ++ rest)) (omega (arith, place, long, long')) never)
     ∙ ap (λ o. otherwise_of line e a (o >>= λ b. Some ((Some b.0.0, b.0.1), b.1))) (reads' (now ++ own) rest (omega (arith, place, long, long', long'')) taken)
@@ -299,7 +301,7 @@ read_while types whole end loops breaks room at line line' line'' one {before} {
     starts
 
 abbrev done : Names → (room line : ℕ) → LoopAnnot → Option ((tree.Stmt × List ℕ) × List Token) → Option ((tree.Stmt × List ℕ) × List Token)
-done types room line annot o = o >>= λ a. r.do_end_at types room a.1 >>= λ e. Some ((tree.do_of line annot a.0.0 e.0, a.0.1), e.1)
+done types room line annot o = o >>= λ a. parts_of.do_end_at types room a.1 >>= λ e. Some ((tree.do_of line annot a.0.0 e.0, a.0.1), e.1)
 
 read_do : (types : Names) → Whole types → (end : ℕ) (loops breaks : Bool) (room at line line' line'' line''' line'''' : ℕ) (one : List Token) {before test all : List Token} {annot : LoopAnnot} {e : ex.Expr} {a : tree.Stmt} {own : List ℕ}
     → SpellsLoopAnnot types (suc room) at before annot → ReadsBody types end true true room (at + length before + 1) one a own → SpellsExpr types room test e
@@ -358,7 +360,7 @@ read_for types whole end loops breaks room at line line' line'' line''' one {bef
 -- ---- `switch`
 
 abbrev switched : (line : ℕ) → ex.Expr → Option ((tree.Stmts × ℕ × List ℕ) × List Token) → Option ((tree.Stmt × List ℕ) × List Token)
-switched line e o = o >>= λ b. r.switch_if (r.is_switch b.0.0) (tree.switch line e b.0.0) b.0.2 b.1
+switched line e o = o >>= λ b. r.switch_if (parts_of.is_switch b.0.0) (tree.switch line e b.0.0) b.0.2 b.1
 
 read_switch : (types : Names) → Whole types → (end : ℕ) (loops breaks : Bool) (room at line line' line'' line''' line'''' : ℕ) (inside : List Token) {test : List Token} {e : ex.Expr} {ss : tree.Stmts} {own : List ℕ} → SpellsExpr types room test e
     → ReadsList (r.item types room true (r.stmt types end room loops true)) end (at + length test + 4) inside ss own
@@ -377,9 +379,9 @@ read_switch types whole end loops breaks room at line line' line'' line''' line'
     let same : (test ++ close' ∷ brace ∷ (inside ++ end' ∷ [])) ++ rest ≡ test ++ close' ∷ brace ∷ tail = simp append_assoc in
     let long = ap length same in
     let long' = length-append test (close' ∷ brace ∷ tail) in
-    let fits : r.is_switch ss ≡ true = ap (λ b. b && nat_le (defaults ss) 1) labelled ∙ few in
+    let fits : parts_of.is_switch ss ≡ true = ap (λ b. b && nat_le (defaults ss) 1) labelled ∙ few in
     deep types end room loops breaks starts (word w.Switch line) (open' ∷ ((test ++ close' ∷ brace ∷ (inside ++ end' ∷ [])) ++ rest))
-    ∙ ap (λ ts. r.test_at types room (open' ∷ ts) >>= λ e. punct_at p.OpenBrace e.1 >>= λ x. switched line e.0 (r.stmts one (length x.1) now x.1)) same
+    ∙ ap (λ ts. parts_of.test_at types room (open' ∷ ts) >>= λ e. punct_at p.OpenBrace e.1 >>= λ x. switched line e.0 (r.stmts one (length x.1) now x.1)) same
     ∙ ap (λ o. o >>= λ e. punct_at p.OpenBrace e.1 >>= λ x. switched line e.0 (r.stmts one (length x.1) now x.1)) (test_complete types whole room s line' line'' (brace ∷ tail))
     ∙ ap (switched line e) (reads line'''' rest (length tail) now (omega (arith, place, long, long')) (omega (arith, length-append inside (end' ∷ rest))))
     ∙ ap (λ b. r.switch_if b (tree.switch line e ss) (now ++ own) rest) fits

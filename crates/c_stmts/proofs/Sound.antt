@@ -24,10 +24,12 @@ use Rattle.c_types.specs.Read.{starts_type}
 use Rattle.c_exprs.specs.Read.{expr_at, cond_at}
 use Rattle.c_decls.specs.Read.{variables_at}
 use Rattle.acsl_parser.specs.Read.{loop_at, assert_at}
-use Rattle.c_stmts.specs.declared.forms.Form.{Form}
-use Rattle.c_stmts.specs.declared.forms.Form.TheVariants as form
+use Rattle.c_stmt_parts.specs.declared.forms.Form.{Form}
+use Rattle.c_stmt_parts.specs.declared.forms.Form.TheVariants as form
+use Rattle.c_stmt_parts.specs.Read as parts_of
 use Rattle.c_stmts.specs.Read as r
-use Rattle.c_stmts.specs.Read.{Starting, Inside, form_of}
+use Rattle.c_stmt_parts.specs.Read.{form_of}
+use Rattle.c_stmts.specs.Read.{Starting, Inside}
 use Rattle.c_stmts.proofs.Tokens.{punct_is, word_is, close_is, first_line_front, Begun, begun}
 
 -- what is read in statements is spelled so
@@ -48,8 +50,8 @@ record Ended (types : Names) (room : ℕ) (q : Punct) (ts : List Token) (a : ex.
   spelled : SpellsExpr types room value a
   all : ts ≡ value ++ punct q line ∷ rest
 
-ended_sound : (types : Names) → Parts types → (room : ℕ) (q : Punct) (ts : List Token) (a : ex.Expr) (rest : List Token) → r.ended_at types room q ts ≡ Some (a, rest) → Ended types room q ts a rest
-unfolding r.ended_at
+ended_sound : (types : Names) → Parts types → (room : ℕ) (q : Punct) (ts : List Token) (a : ex.Expr) (rest : List Token) → parts_of.ended_at types room q ts ≡ Some (a, rest) → Ended types room q ts a rest
+unfolding parts_of.ended_at
 ended_sound types parts room q ts a rest h =
     let x = bind_ok (expr_at types room ts) _ (a, rest) h in
     let y = bind_ok (punct_at q x.0.1) _ (a, rest) x.2 in
@@ -71,8 +73,8 @@ pub record Tested (types : Names) (room : ℕ) (ts : List Token) (a : ex.Expr) (
   pub spelled : SpellsExpr types room value a
   pub all : ts ≡ punct p.OpenParen line ∷ (value ++ punct p.CloseParen line' ∷ rest)
 
-pub test_sound : (types : Names) → Parts types → (room : ℕ) (ts : List Token) (a : ex.Expr) (rest : List Token) → r.test_at types room ts ≡ Some (a, rest) → Tested types room ts a rest
-unfolding r.test_at
+pub test_sound : (types : Names) → Parts types → (room : ℕ) (ts : List Token) (a : ex.Expr) (rest : List Token) → parts_of.test_at types room ts ≡ Some (a, rest) → Tested types room ts a rest
+unfolding parts_of.test_at
 test_sound types parts room ts a rest h =
     let x = bind_ok (punct_at p.OpenParen ts) _ (a, rest) h in
     let y = ended_sound types parts room p.CloseParen x.0.1 a rest x.2 in
@@ -91,10 +93,10 @@ pub record Perhaps (types : Names) (room : ℕ) (q : Punct) (ts : List Token) (a
   pub spelled : SpellsOptional types room value a
   pub all : ts ≡ value ++ punct q line ∷ rest
 
-pub optional_sound : (types : Names) → Parts types → (room : ℕ) (q : Punct) (ts : List Token) (a : Option ex.Expr) (rest : List Token) → r.optional_at types room q ts ≡ Some (a, rest) → Perhaps types room q ts a rest
-unfolding r.optional_at
+pub optional_sound : (types : Names) → Parts types → (room : ℕ) (q : Punct) (ts : List Token) (a : Option ex.Expr) (rest : List Token) → parts_of.optional_at types room q ts ≡ Some (a, rest) → Perhaps types room q ts a rest
+unfolding parts_of.optional_at
 optional_sound types parts room q ts a rest h =
-    elim (punct_at q ts) as (λ o. punct_at q ts ≡ o → r.optional_by o (r.ended_at types room q ts) ≡ Some (a, rest) → Perhaps types room q ts a rest) [
+    elim (punct_at q ts) as (λ o. punct_at q ts ≡ o → parts_of.optional_by o (parts_of.ended_at types room q ts) ≡ Some (a, rest) → Perhaps types room q ts a rest) [
       | Some x ↦ (λ some h.
           let same = pair_is None a x.1 rest h in
           record {
@@ -104,7 +106,7 @@ optional_sound types parts room q ts a rest h =
             all = punct_is q ts x some ∙ ap (λ l. punct q x.0 ∷ l) same.1;
           })
       | None ↦ (λ none h.
-          let x = bind_ok (r.ended_at types room q ts) _ (a, rest) h in
+          let x = bind_ok (parts_of.ended_at types room q ts) _ (a, rest) h in
           let same = pair_is (Some x.0.0) a x.0.1 rest x.2 in
           let y = ended_sound types parts room q ts x.0.0 x.0.1 x.1 in
           record {
@@ -125,10 +127,10 @@ record ValueAt (types : Names) (room : ℕ) (ts : List Token) (a : tree.Stmt) (r
   all : ts ≡ (value ++ punct p.Semicolon line ∷ []) ++ rest
   made : tree.expr (first_line (value ++ punct p.Semicolon line ∷ [])) expr ≡ a
 
-value_sound : (types : Names) → Parts types → (room : ℕ) (ts : List Token) (a : tree.Stmt) (rest : List Token) → r.value_at types room ts ≡ Some (a, rest) → ValueAt types room ts a rest
-unfolding r.value_at
+value_sound : (types : Names) → Parts types → (room : ℕ) (ts : List Token) (a : tree.Stmt) (rest : List Token) → parts_of.value_at types room ts ≡ Some (a, rest) → ValueAt types room ts a rest
+unfolding parts_of.value_at
 value_sound types parts room ts a rest h =
-    let x = bind_ok (r.ended_at types room p.Semicolon ts) _ (a, rest) h in
+    let x = bind_ok (parts_of.ended_at types room p.Semicolon ts) _ (a, rest) h in
     let same = pair_is (tree.expr (first_line ts) x.0.0) a x.0.1 rest x.2 in
     let y = ended_sound types parts room p.Semicolon ts x.0.0 x.0.1 x.1 in
     let semi = punct p.Semicolon y.line in
@@ -157,8 +159,8 @@ pub record LocalsAt (types : Names) (room : ℕ) (ts : List Token) (a : tree.Stm
   pub made : tree.locals (first_line tokens) vars ≡ a
   pub line : first_line tokens ≡ first_line ts
 
-pub locals_sound : (types : Names) → Parts types → (room : ℕ) (ts : List Token) (a : tree.Stmt) (rest : List Token) → r.locals_at types room ts ≡ Some (a, rest) → LocalsAt types room ts a rest
-unfolding r.locals_at
+pub locals_sound : (types : Names) → Parts types → (room : ℕ) (ts : List Token) (a : tree.Stmt) (rest : List Token) → parts_of.locals_at types room ts ≡ Some (a, rest) → LocalsAt types room ts a rest
+unfolding parts_of.locals_at
 locals_sound types parts room ts a rest h =
     let x = bind_ok (variables_at types room ts) _ (a, rest) h in
     let same = pair_is (tree.locals (first_line ts) x.0.0) a x.0.1 rest x.2 in
@@ -174,16 +176,16 @@ locals_sound types parts room ts a rest h =
       line = on;
     }
 
-pub first_sound : (types : Names) → Parts types → (room : ℕ) → Sound (SpellsFirst types room) (r.first_at types room)
-unfolding r.first_at
+pub first_sound : (types : Names) → Parts types → (room : ℕ) → Sound (SpellsFirst types room) (parts_of.first_at types room)
+unfolding parts_of.first_at
 first_sound types parts room ts a rest h =
-    elim (punct_at p.Semicolon ts) as (λ o. punct_at p.Semicolon ts ≡ o → r.first_by o (starts_type types ts) (r.locals_at types room ts) (r.value_at types room ts) ≡ Some (a, rest) → Took (SpellsFirst types room) ts a rest) [
+    elim (punct_at p.Semicolon ts) as (λ o. punct_at p.Semicolon ts ≡ o → parts_of.first_by o (starts_type types ts) (parts_of.locals_at types room ts) (parts_of.value_at types room ts) ≡ Some (a, rest) → Took (SpellsFirst types room) ts a rest) [
       | Some x ↦ (λ some h.
           let same = pair_is (tree.empty x.0) a x.1 rest h in
           let xs = punct p.Semicolon x.0 ∷ [] in
           (xs, punct_is p.Semicolon ts x some ∙ ap (λ l. punct p.Semicolon x.0 ∷ l) same.1, subst (SpellsFirst types room xs) same.0 g.nothing))
       | None ↦ (λ none h.
-          elim (starts_type types ts) as (λ b. r.first_by None b (r.locals_at types room ts) (r.value_at types room ts) ≡ Some (a, rest) → Took (SpellsFirst types room) ts a rest) [
+          elim (starts_type types ts) as (λ b. parts_of.first_by None b (parts_of.locals_at types room ts) (parts_of.value_at types room ts) ≡ Some (a, rest) → Took (SpellsFirst types room) ts a rest) [
             | true ↦ (λ h.
                 let x = locals_sound types parts room ts a rest h in
                 (x.tokens, x.all, subst (SpellsFirst types room x.tokens) x.made (g.variables x.spelled)))
@@ -205,7 +207,7 @@ pub record Alone (types : Names) (loops breaks : Bool) (room : ℕ) (ts : List T
   pub all : ts ≡ tokens ++ rest
   pub whole : ends_short a ≡ false
 
-jump_sound : (allowed : Bool) (made : tree.Stmt) (ts : List Token) (a : tree.Stmt) (rest : List Token) → r.jump_at allowed made ts ≡ Some (a, rest)
+jump_sound : (allowed : Bool) (made : tree.Stmt) (ts : List Token) (a : tree.Stmt) (rest : List Token) → parts_of.jump_at allowed made ts ≡ Some (a, rest)
     → (allowed ≡ true) × (line : ℕ) × (made ≡ a) × (ts ≡ punct p.Semicolon line ∷ rest)
 jump_sound false made ts a rest h = absurd cc
 jump_sound true made ts a rest h =
@@ -213,9 +215,9 @@ jump_sound true made ts a rest h =
     let same = pair_is made a x.0.1 rest x.2 in
     (refl, x.0.0, same.0, punct_is p.Semicolon ts x.0 x.1 ∙ ap (λ l. punct p.Semicolon x.0.0 ∷ l) same.1)
 
-break_sound : (types : Names) (loops breaks : Bool) (room line : ℕ) (ts : List Token) (a : tree.Stmt) (rest : List Token) → r.break_at breaks line ts ≡ Some (a, rest)
+break_sound : (types : Names) (loops breaks : Bool) (room line : ℕ) (ts : List Token) (a : tree.Stmt) (rest : List Token) → parts_of.break_at breaks line ts ≡ Some (a, rest)
     → Alone types loops breaks room (word w.Break line ∷ ts) a rest
-unfolding r.break_at
+unfolding parts_of.break_at
 break_sound types loops breaks room line ts a rest h =
     let x = jump_sound breaks (tree.break line) ts a rest h in
     let xs = word w.Break line ∷ punct p.Semicolon x.1 ∷ [] in
@@ -226,9 +228,9 @@ break_sound types loops breaks room line ts a rest h =
       whole = subst (λ a. ends_short a ≡ false) x.2 refl;
     }
 
-continue_sound : (types : Names) (loops breaks : Bool) (room line : ℕ) (ts : List Token) (a : tree.Stmt) (rest : List Token) → r.continue_at loops line ts ≡ Some (a, rest)
+continue_sound : (types : Names) (loops breaks : Bool) (room line : ℕ) (ts : List Token) (a : tree.Stmt) (rest : List Token) → parts_of.continue_at loops line ts ≡ Some (a, rest)
     → Alone types loops breaks room (word w.Continue line ∷ ts) a rest
-unfolding r.continue_at
+unfolding parts_of.continue_at
 continue_sound types loops breaks room line ts a rest h =
     let x = jump_sound loops (tree.continue line) ts a rest h in
     let xs = word w.Continue line ∷ punct p.Semicolon x.1 ∷ [] in
@@ -239,11 +241,11 @@ continue_sound types loops breaks room line ts a rest h =
       whole = subst (λ a. ends_short a ≡ false) x.2 refl;
     }
 
-return_sound : (types : Names) → Parts types → (loops breaks : Bool) (room line : ℕ) (ts : List Token) (a : tree.Stmt) (rest : List Token) → r.return_at types room line ts ≡ Some (a, rest)
+return_sound : (types : Names) → Parts types → (loops breaks : Bool) (room line : ℕ) (ts : List Token) (a : tree.Stmt) (rest : List Token) → parts_of.return_at types room line ts ≡ Some (a, rest)
     → Alone types loops breaks room (word w.Return line ∷ ts) a rest
-unfolding r.return_at
+unfolding parts_of.return_at
 return_sound types parts loops breaks room line ts a rest h =
-    let x = bind_ok (r.optional_at types room p.Semicolon ts) _ (a, rest) h in
+    let x = bind_ok (parts_of.optional_at types room p.Semicolon ts) _ (a, rest) h in
     let same = pair_is (tree.return_of line x.0.0) a x.0.1 rest x.2 in
     let y = optional_sound types parts room p.Semicolon ts x.0.0 x.0.1 x.1 in
     let semi = punct p.Semicolon y.line in
@@ -267,7 +269,7 @@ empty_sound types loops breaks room line ts a rest h =
       whole = subst (λ a. ends_short a ≡ false) same.0 refl;
     }
 
-expr_sound : (types : Names) → Parts types → (loops breaks : Bool) (room : ℕ) (ts : List Token) (a : tree.Stmt) (rest : List Token) → r.value_at types room ts ≡ Some (a, rest)
+expr_sound : (types : Names) → Parts types → (loops breaks : Bool) (room : ℕ) (ts : List Token) (a : tree.Stmt) (rest : List Token) → parts_of.value_at types room ts ≡ Some (a, rest)
     → Alone types loops breaks room ts a rest
 expr_sound types parts loops breaks room ts a rest h =
     let x = value_sound types parts room ts a rest h in
@@ -283,7 +285,7 @@ expr_sound types parts loops breaks room ts a rest h =
     }
 
 plain_by_sound : (types : Names) → Parts types → (loops breaks : Bool) (room line : ℕ) (kind : TokenKind) (f : Form) → Begun f kind → (ts : List Token) (a : tree.Stmt) (rest : List Token)
-    → r.plain_by types room loops breaks line f ts (token kind line ∷ ts) ≡ Some (a, rest) → Alone types loops breaks room (token kind line ∷ ts) a rest
+    → parts_of.plain_by types room loops breaks line f ts (token kind line ∷ ts) ≡ Some (a, rest) → Alone types loops breaks room (token kind line ∷ ts) a rest
 plain_by_sound types parts loops breaks room line kind form.Empty b ts a rest h =
     subst (λ kind. Alone types loops breaks room (token kind line ∷ ts) a rest) (sym b) (empty_sound types loops breaks room line ts a rest h)
 plain_by_sound types parts loops breaks room line kind form.Break b ts a rest h =
@@ -295,18 +297,18 @@ plain_by_sound types parts loops breaks room line kind form.Return b ts a rest h
 plain_by_sound types parts loops breaks room line kind form.Value b ts a rest h = expr_sound types parts loops breaks room (token kind line ∷ ts) a rest h
 plain_by_sound types parts loops breaks room line kind _ b ts a rest h = absurd cc
 
-pub plain_sound : (types : Names) → Parts types → (loops breaks : Bool) (room : ℕ) (ts : List Token) (a : tree.Stmt) (rest : List Token) → r.plain_at types room loops breaks ts ≡ Some (a, rest)
+pub plain_sound : (types : Names) → Parts types → (loops breaks : Bool) (room : ℕ) (ts : List Token) (a : tree.Stmt) (rest : List Token) → parts_of.plain_at types room loops breaks ts ≡ Some (a, rest)
     → Alone types loops breaks room ts a rest
-unfolding r.plain_at
+unfolding parts_of.plain_at
 plain_sound types parts loops breaks room [] a rest h = absurd cc
 plain_sound types parts loops breaks room (t ∷ ts) a rest h = plain_by_sound types parts loops breaks room t.line t.kind (form_of t.kind) (begun t.kind) ts a rest h
 
-pub assertion_sound : (types : Names) → Parts types → (loops breaks : Bool) (room line : ℕ) (ts : List Token) (a : tree.Stmt) (rest : List Token) → r.assertion_at types room ts ≡ Some (a, rest)
+pub assertion_sound : (types : Names) → Parts types → (loops breaks : Bool) (room line : ℕ) (ts : List Token) (a : tree.Stmt) (rest : List Token) → parts_of.assertion_at types room ts ≡ Some (a, rest)
     → Alone types loops breaks room (annot_open line ∷ ts) a rest
-unfolding r.assertion_at
+unfolding parts_of.assertion_at
 assertion_sound types parts loops breaks room line ts a rest h =
     let x = bind_ok (assert_at types room ts) _ (a, rest) h in
-    let y = bind_ok (r.annot_close_at x.0.1) _ (a, rest) x.2 in
+    let y = bind_ok (parts_of.annot_close_at x.0.1) _ (a, rest) x.2 in
     let same = pair_is (tree.assert x.0.0.1 x.0.0.0) a y.0.1 rest y.2 in
     let took = parts.assert_sound room ts x.0.0 x.0.1 x.1 in
     let end = annot_close y.0.0 in

@@ -20,10 +20,12 @@ use Rattle.c_grammar.proofs.Readers.{bind_ok, guard_ok, pair_is, Took, Sound}
 use Rattle.c_types.specs.Read.{starts_type}
 use Rattle.c_exprs.specs.Read.{expr_at, cond_at}
 use Rattle.acsl_parser.specs.Read.{loop_at}
-use Rattle.c_stmts.specs.declared.forms.Form.{Form}
-use Rattle.c_stmts.specs.declared.forms.Form.TheVariants as form
+use Rattle.c_stmt_parts.specs.declared.forms.Form.{Form}
+use Rattle.c_stmt_parts.specs.declared.forms.Form.TheVariants as form
+use Rattle.c_stmt_parts.specs.Read as parts_of
 use Rattle.c_stmts.specs.Read as r
-use Rattle.c_stmts.specs.Read.{Starting, Inside, form_of}
+use Rattle.c_stmt_parts.specs.Read.{form_of}
+use Rattle.c_stmts.specs.Read.{Starting, Inside}
 use Rattle.c_stmts.proofs.Tokens.{punct_is, word_is, close_is, first_line_front, Begun, begun}
 use Rattle.c_stmts.proofs.Sound as so
 use Rattle.c_stmts.proofs.Sound.{Parts, Tested, test_sound, Perhaps, optional_sound, first_sound, LocalsAt, locals_sound, Alone, plain_sound, assertion_sound, At, SoundFor, at_map, with_starts, never_short, beside_is, alone_at, ListAt, stmts_sound, InBlock, blocks, InSwitch, cases}
@@ -40,7 +42,7 @@ unfolding r.item
 block_item_sound types parts end loops breaks room inner sound at starts ts x rest place h =
     elim (starts_type types ts) as (λ b. r.local_by b types room starts ts (inner starts ts) ≡ Some (x, rest) → At (InBlock types loops breaks room at) starts ts x rest) [
       | true ↦ (λ h.
-          let y = beside_is (starts ++ first_line ts ∷ []) (r.locals_at types room ts) x rest h in
+          let y = beside_is (starts ++ first_line ts ∷ []) (parts_of.locals_at types room ts) x rest h in
           let z = locals_sound types parts room ts y.0 rest y.1 in
           let own' = first_line z.tokens ∷ [] in
           subst (λ x. At (InBlock types loops breaks room at) starts ts x rest) y.2 (record {
@@ -56,10 +58,10 @@ block_item_sound types parts end loops breaks room inner sound at starts ts x re
     h
 
 case_sound : (types : Names) → Parts types → (loops : Bool) (room at line : ℕ) (starts : List ℕ) (ts : List Token) (x : tree.Stmt × List ℕ) (rest : List Token)
-    → r.beside starts (r.case_at types room line ts) ≡ Some (x, rest) → At (InSwitch types loops room at) starts (word w.Case line ∷ ts) x rest
-unfolding r.case_at
+    → r.beside starts (parts_of.case_at types room line ts) ≡ Some (x, rest) → At (InSwitch types loops room at) starts (word w.Case line ∷ ts) x rest
+unfolding parts_of.case_at
 case_sound types parts loops room at line starts ts x rest h =
-    let y = beside_is starts (r.case_at types room line ts) x rest h in
+    let y = beside_is starts (parts_of.case_at types room line ts) x rest h in
     let a = bind_ok (cond_at types room ts) _ (y.0, rest) y.1 in
     let c = bind_ok (punct_at p.Colon a.0.1) _ (y.0, rest) a.2 in
     let same = pair_is (tree.case_of line a.0.0) y.0 c.0.1 rest c.2 in
@@ -77,10 +79,10 @@ case_sound types parts loops room at line starts ts x rest h =
     })
 
 default_sound : (types : Names) (loops : Bool) (room at line : ℕ) (starts : List ℕ) (ts : List Token) (x : tree.Stmt × List ℕ) (rest : List Token)
-    → r.beside starts (r.default_at line ts) ≡ Some (x, rest) → At (InSwitch types loops room at) starts (word w.Default line ∷ ts) x rest
-unfolding r.default_at
+    → r.beside starts (parts_of.default_at line ts) ≡ Some (x, rest) → At (InSwitch types loops room at) starts (word w.Default line ∷ ts) x rest
+unfolding parts_of.default_at
 default_sound types loops room at line starts ts x rest h =
-    let y = beside_is starts (r.default_at line ts) x rest h in
+    let y = beside_is starts (parts_of.default_at line ts) x rest h in
     let c = bind_ok (punct_at p.Colon ts) _ (y.0, rest) y.1 in
     let same = pair_is (tree.default line) y.0 c.0.1 rest c.2 in
     let xs = word w.Default line ∷ punct p.Colon c.0.0 ∷ [] in
@@ -253,7 +255,7 @@ pub choice_sound : (types : Names) → Parts types → (end : ℕ) (loops breaks
     → At (SpellsStmt types loops breaks (suc room) at) starts (word w.If line ∷ ts) x rest
 unfolding r.choice r.otherwise
 choice_sound types parts end loops breaks room inner sound at line starts ts x rest place h =
-    let e = bind_ok (r.test_at types room ts) _ (x, rest) h in
+    let e = bind_ok (parts_of.test_at types room ts) _ (x, rest) h in
     let a = bind_ok (r.body types room inner (starts ++ line ∷ []) e.0.1) _ (x, rest) e.2 in
     let o = bind_ok (r.otherwise types room inner a.0.0.1 a.0.1) _ (x, rest) a.2 in
     let same = pair_is (chosen line e.0.0 a.0.0.0 o.0.0) x o.0.1 rest o.2 in

@@ -16,10 +16,12 @@ use Rattle.c_grammar.specs.Stmts.{SpellsOptional, SpellsFirst, SpellsLoopAnnot, 
 use Rattle.c_grammar.specs.Reading.{Reader, ◌>>=◌, punct_at, word_at, keyword_at}
 use Rattle.c_grammar.proofs.Readers.{bind_ok, guard_ok, pair_is, Took, Sound}
 use Rattle.acsl_parser.specs.Read.{loop_at}
-use Rattle.c_stmts.specs.declared.forms.Form.{Form}
-use Rattle.c_stmts.specs.declared.forms.Form.TheVariants as form
+use Rattle.c_stmt_parts.specs.declared.forms.Form.{Form}
+use Rattle.c_stmt_parts.specs.declared.forms.Form.TheVariants as form
+use Rattle.c_stmt_parts.specs.Read as parts_of
 use Rattle.c_stmts.specs.Read as r
-use Rattle.c_stmts.specs.Read.{Starting, Inside, form_of, Body, body_of, most_inside}
+use Rattle.c_stmt_parts.specs.Read.{form_of}
+use Rattle.c_stmts.specs.Read.{Starting, Inside, Body, body_of, most_inside}
 use Rattle.c_stmts.proofs.Tokens.{punct_is, word_is, close_is, first_line_front, Begun, begun}
 use Rattle.c_stmts.proofs.Turns.{deep_by, deep_annotated, deep_is}
 use Rattle.c_stmts.proofs.Sound.{Parts, Tested, test_sound, Perhaps, optional_sound, first_sound, Alone, plain_sound, assertion_sound, At, SoundFor, with_starts, alone_at, ListAt, stmts_sound, InBlock, blocks, InSwitch, cases}
@@ -40,7 +42,7 @@ unfolding r.while_of
 while_sound types parts end loops breaks room inner sound at before annot spelled line starts ts x rest place h =
     let all = before ++ word w.While line ∷ ts in
     let now = starts ++ first_line all ∷ [] in
-    let e = bind_ok (r.test_at types room ts) _ (x, rest) h in
+    let e = bind_ok (parts_of.test_at types room ts) _ (x, rest) h in
     let a = bind_ok (r.body types room inner now e.0.1) _ (x, rest) e.2 in
     let same = pair_is (with_starts (tree.while_of line annot e.0.0 a.0.0.0) a.0.0.1) x a.0.1 rest a.2 in
     let tested = test_sound types parts room ts e.0.0 e.0.1 e.1 in
@@ -74,11 +76,11 @@ record DoEnd (types : Names) (room : ℕ) (ts : List Token) (test : ex.Expr) (re
   while_line : ℕ
   all : ts ≡ word w.While while_line ∷ tested'
 
-do_end_sound : (types : Names) → Parts types → (room : ℕ) (ts : List Token) (test : ex.Expr) (rest : List Token) → r.do_end_at types room ts ≡ Some (test, rest) → DoEnd types room ts test rest
-unfolding r.do_end_at
+do_end_sound : (types : Names) → Parts types → (room : ℕ) (ts : List Token) (test : ex.Expr) (rest : List Token) → parts_of.do_end_at types room ts ≡ Some (test, rest) → DoEnd types room ts test rest
+unfolding parts_of.do_end_at
 do_end_sound types parts room ts test rest h =
     let x = bind_ok (word_at w.While ts) _ (test, rest) h in
-    let e = bind_ok (r.test_at types room x.0.1) _ (test, rest) x.2 in
+    let e = bind_ok (parts_of.test_at types room x.0.1) _ (test, rest) x.2 in
     let y = bind_ok (punct_at p.Semicolon e.0.1) _ (test, rest) e.2 in
     let same = pair_is e.0.0 test y.0.1 rest y.2 in
     let semi = punct_is p.Semicolon e.0.1 y.0 y.1 ∙ ap (λ l. punct p.Semicolon y.0.0 ∷ l) same.1 in
@@ -95,7 +97,7 @@ do_sound types parts end loops breaks room inner sound at before annot spelled l
     let all = before ++ word w.Do line ∷ ts in
     let now = starts ++ first_line all ∷ [] in
     let a = bind_ok (r.body types room inner now ts) _ (x, rest) h in
-    let e = bind_ok (r.do_end_at types room a.0.1) _ (x, rest) a.2 in
+    let e = bind_ok (parts_of.do_end_at types room a.0.1) _ (x, rest) a.2 in
     let same = pair_is (with_starts (tree.do_of line annot a.0.0.0 e.0.0) a.0.0.1) x e.0.1 rest e.2 in
     let long'' = length-append before (word w.Do line ∷ ts) in
     let inside = body_sound types parts end true true room inner sound (at + length before + 1) now ts a.0.0 a.0.1 (omega (arith, place, long'')) a.1 in
@@ -137,13 +139,13 @@ record HeadAt (types : Names) (room : ℕ) (ts : List Token) (h : tree.Stmt × O
 abbrev made_head : tree.Stmt → Option ex.Expr → Option ex.Expr → tree.Stmt × Option ex.Expr × Option ex.Expr
 made_head i c n = (i, c, n)
 
-head_sound : (types : Names) → Parts types → (room : ℕ) (ts : List Token) (x : tree.Stmt × Option ex.Expr × Option ex.Expr) (rest : List Token) → r.head_at types room ts ≡ Some (x, rest) → HeadAt types room ts x rest
-unfolding r.head_at
+head_sound : (types : Names) → Parts types → (room : ℕ) (ts : List Token) (x : tree.Stmt × Option ex.Expr × Option ex.Expr) (rest : List Token) → parts_of.head_at types room ts ≡ Some (x, rest) → HeadAt types room ts x rest
+unfolding parts_of.head_at
 head_sound types parts room ts x rest h =
     let o = bind_ok (punct_at p.OpenParen ts) _ (x, rest) h in
-    let i = bind_ok (r.first_at types room o.0.1) _ (x, rest) o.2 in
-    let c = bind_ok (r.optional_at types room p.Semicolon i.0.1) _ (x, rest) i.2 in
-    let n = bind_ok (r.optional_at types room p.CloseParen c.0.1) _ (x, rest) c.2 in
+    let i = bind_ok (parts_of.first_at types room o.0.1) _ (x, rest) o.2 in
+    let c = bind_ok (parts_of.optional_at types room p.Semicolon i.0.1) _ (x, rest) i.2 in
+    let n = bind_ok (parts_of.optional_at types room p.CloseParen c.0.1) _ (x, rest) c.2 in
     let same = pair_is (made_head i.0.0 c.0.0 n.0.0) x n.0.1 rest n.2 in
     let first = first_sound types parts room o.0.1 i.0.0 i.0.1 i.1 in
     let test = optional_sound types parts room p.Semicolon i.0.1 c.0.0 c.0.1 c.1 in
@@ -174,7 +176,7 @@ unfolding r.for_of
 for_sound types parts end loops breaks room inner sound at before annot spelled line starts ts x rest place h =
     let all = before ++ word w.For line ∷ ts in
     let now = starts ++ first_line all ∷ [] in
-    let e = bind_ok (r.head_at types room ts) _ (x, rest) h in
+    let e = bind_ok (parts_of.head_at types room ts) _ (x, rest) h in
     let a = bind_ok (r.body types room inner now e.0.1) _ (x, rest) e.2 in
     let same = pair_is (with_starts (tree.for_of line annot e.0.0.0 e.0.0.1 e.0.0.2 a.0.0.0) a.0.0.1) x a.0.1 rest a.2 in
     let head = head_sound types parts room ts e.0.0 e.0.1 e.1 in
@@ -251,10 +253,10 @@ switch_sound : (types : Names) → Parts types → (end : ℕ) (loops breaks : B
 unfolding r.switch_of
 switch_sound types parts end loops breaks room inner sound at line starts ts x rest place h =
     let now = starts ++ line ∷ [] in
-    let e = bind_ok (r.test_at types room ts) _ (x, rest) h in
+    let e = bind_ok (parts_of.test_at types room ts) _ (x, rest) h in
     let o = bind_ok (punct_at p.OpenBrace e.0.1) _ (x, rest) e.2 in
     let b = bind_ok (r.stmts (r.item types room true inner) (length o.0.1) now o.0.1) _ (x, rest) o.2 in
-    let last = switch_if_is (r.is_switch b.0.0.0) (tree.switch line e.0.0 b.0.0.0) b.0.0.2 b.0.1 x rest b.2 in
+    let last = switch_if_is (parts_of.is_switch b.0.0.0) (tree.switch line e.0.0 b.0.0.0) b.0.0.2 b.0.1 x rest b.2 in
     let fits = both_true (begins_labelled b.0.0.0) (nat_le (defaults b.0.0.0) 1) last.0 in
     let tested = test_sound types parts room ts e.0.0 e.0.1 e.1 in
     let value = tested.value in
@@ -292,16 +294,16 @@ record LoopAnnotAt (types : Names) (room at line : ℕ) (ts : List Token) (a : L
 
 -- the annotation that was read, and its end
 abbrev closed_annot : Option (LoopAnnot × List Token) → Option (LoopAnnot × List Token)
-closed_annot o = o >>= λ a. r.annot_close_at a.1 >>= λ x. Some (a.0, x.1)
+closed_annot o = o >>= λ a. parts_of.annot_close_at a.1 >>= λ x. Some (a.0, x.1)
 
-loop_annot_sound : (types : Names) → Parts types → (room end at line : ℕ) (ts : List Token) (a : LoopAnnot) (rest : List Token) → suc at + length ts ≡ end → r.loop_annot_at types room end ts ≡ Some (a, rest)
+loop_annot_sound : (types : Names) → Parts types → (room end at line : ℕ) (ts : List Token) (a : LoopAnnot) (rest : List Token) → suc at + length ts ≡ end → parts_of.loop_annot_at types room end ts ≡ Some (a, rest)
     → LoopAnnotAt types room at line ts a rest
-unfolding r.loop_annot_at
+unfolding parts_of.loop_annot_at
 loop_annot_sound types parts room end at line ts a rest place h =
     let within : nat_le (length ts) end ≡ true = grind (arith, nat_tests) in
     let h' = subst (λ b. cond b (closed_annot (loop_at types room end ts)) None ≡ Some (a, rest)) within h in
     let x = bind_ok (loop_at types room end ts) _ (a, rest) h' in
-    let y = bind_ok (r.annot_close_at x.0.1) _ (a, rest) x.2 in
+    let y = bind_ok (parts_of.annot_close_at x.0.1) _ (a, rest) x.2 in
     let same = pair_is x.0.0 a y.0.1 rest y.2 in
     let took = parts.loop_sound room end ts x.0.0 x.0.1 (omega (arith, place)) x.1 in
     let close' = annot_close y.0.0 in
@@ -319,10 +321,10 @@ loop_annot_sound types parts room end at line ts a rest place h =
 -- a loop with its annotation
 annotated_sound : (types : Names) → Parts types → (end : ℕ) (loops breaks : Bool) (room : ℕ) (inner : Starting tree.Stmt) → SoundFor end (SpellsStmt types true true room) inner
     → (at line : ℕ) (starts : List ℕ) (ts : List Token) (x : tree.Stmt × List ℕ) (rest : List Token) → suc at + length ts ≡ end
-    → (r.loop_annot_at types (suc room) end ts >>= λ a. r.looped types room inner a.0 (starts ++ line ∷ []) a.1) ≡ Some (x, rest)
+    → (parts_of.loop_annot_at types (suc room) end ts >>= λ a. r.looped types room inner a.0 (starts ++ line ∷ []) a.1) ≡ Some (x, rest)
     → At (SpellsStmt types loops breaks (suc room) at) starts (annot_open line ∷ ts) x rest
 annotated_sound types parts end loops breaks room inner sound at line starts ts x rest place h =
-    let a = bind_ok (r.loop_annot_at types (suc room) end ts) _ (x, rest) h in
+    let a = bind_ok (parts_of.loop_annot_at types (suc room) end ts) _ (x, rest) h in
     let y = loop_annot_sound types parts (suc room) end at line ts a.0.0 a.0.1 place a.1 in
     let on : line ≡ first_line (y.tokens ++ a.0.1) = ap first_line y.all in
     let long = ap length y.all in
@@ -348,12 +350,12 @@ flat_sound types parts end inner loops breaks at line kind form.Annotated b star
     elim (keyword_at (codes "assert") ts) as (λ o. r.annotated_by o types end 0 inner (starts ++ line ∷ []) ts ≡ Some (x, rest) → At (SpellsStmt types loops breaks 0 at) starts (token kind line ∷ ts) x rest) [
       | Some y ↦ (λ h.
           subst (λ kind. At (SpellsStmt types loops breaks 0 at) starts (token kind line ∷ ts) x rest) (sym b)
-          (alone_at types loops breaks 0 at starts (annot_open line ∷ ts) x rest (r.assertion_at types 0 ts) (λ a read. assertion_sound types parts loops breaks 0 line ts a rest read) h))
+          (alone_at types loops breaks 0 at starts (annot_open line ∷ ts) x rest (parts_of.assertion_at types 0 ts) (λ a read. assertion_sound types parts loops breaks 0 line ts a rest read) h))
       | None ↦ (λ h. absurd cc)
     ]
     h
 flat_sound types parts end inner loops breaks at line kind _ b starts ts x rest h =
-    alone_at types loops breaks 0 at starts (token kind line ∷ ts) x rest (r.plain_at types 0 loops breaks (token kind line ∷ ts)) (λ a read. plain_sound types parts loops breaks 0 (token kind line ∷ ts) a rest read) h
+    alone_at types loops breaks 0 at starts (token kind line ∷ ts) x rest (parts_of.plain_at types 0 loops breaks (token kind line ∷ ts)) (λ a read. plain_sound types parts loops breaks 0 (token kind line ∷ ts) a rest read) h
 
 -- what reads the statements in one
 abbrev InsideSound : Names → (end room : ℕ) → Inside → Type 0
@@ -384,14 +386,14 @@ deep_sound types parts end room inner sound loops breaks at line kind form.Annot
     (λ o. deep_annotated o types end room inner (starts ++ line ∷ []) ts ≡ Some (x, rest) → At (SpellsStmt types loops breaks (suc room) at) starts (token kind line ∷ ts) x rest) [
       | Some y ↦ (λ h.
           subst (λ kind. At (SpellsStmt types loops breaks (suc room) at) starts (token kind line ∷ ts) x rest) (sym b)
-          (alone_at types loops breaks (suc room) at starts (annot_open line ∷ ts) x rest (r.assertion_at types (suc room) ts) (λ a read. assertion_sound types parts loops breaks (suc room) line ts a rest read) h))
+          (alone_at types loops breaks (suc room) at starts (annot_open line ∷ ts) x rest (parts_of.assertion_at types (suc room) ts) (λ a read. assertion_sound types parts loops breaks (suc room) line ts a rest read) h))
       | None ↦ (λ h.
           subst (λ kind. At (SpellsStmt types loops breaks (suc room) at) starts (token kind line ∷ ts) x rest) (sym b)
           (annotated_sound types parts end loops breaks room (inner true true) (sound true true) at line starts ts x rest place h))
     ]
     h
 deep_sound types parts end room inner sound loops breaks at line kind _ b starts ts x rest place h =
-    alone_at types loops breaks (suc room) at starts (token kind line ∷ ts) x rest (r.plain_at types (suc room) loops breaks (token kind line ∷ ts))
+    alone_at types loops breaks (suc room) at starts (token kind line ∷ ts) x rest (parts_of.plain_at types (suc room) loops breaks (token kind line ∷ ts))
     (λ a read. plain_sound types parts loops breaks (suc room) (token kind line ∷ ts) a rest read) h
 
 pub stmt_sound : (types : Names) → Parts types → (end room : ℕ) → InsideSound types end room (r.stmt types end room)

@@ -18,9 +18,9 @@ use Rattle.c_grammar.specs.Exprs.{SpellsPrimary, SpellsPostfix, SpellsUnary, Spe
 use Rattle.c_grammar.specs.Stmts as g
 use Rattle.c_grammar.specs.Stmts.{SpellsLoopAnnot, SpellsStmt, SpellsBlock, is_block}
 use Rattle.c_grammar.specs.Reading.{punct_at, word_at}
-use Rattle.c_stmts.specs.declared.forms.Form.{Form}
-use Rattle.c_stmts.specs.declared.forms.Form.TheVariants as form
-use Rattle.c_stmts.specs.Read.{form_of}
+use Rattle.c_stmt_parts.specs.declared.forms.Form.{Form}
+use Rattle.c_stmt_parts.specs.declared.forms.Form.TheVariants as form
+use Rattle.c_stmt_parts.specs.Read.{form_of}
 
 -- ---- expressions
 

@@ -13,9 +13,9 @@ use Rattle.c_syntax.specs.contracts.token.Word.{the_type as word_type}
 use Rattle.c_grammar.specs.Tokens.{token, punct, word, annot_close, first_line}
 use Rattle.c_grammar.specs.Reading.{punct_at, punct_by, word_at, word_by}
 use Rattle.c_grammar.proofs.Readers.{guard_ok, pair_is}
-use Rattle.c_stmts.specs.declared.forms.Form.{Form}
-use Rattle.c_stmts.specs.declared.forms.Form.TheVariants as form
-use Rattle.c_stmts.specs.Read.{form_of, annot_close_at, close_by}
+use Rattle.c_stmt_parts.specs.declared.forms.Form.{Form}
+use Rattle.c_stmt_parts.specs.declared.forms.Form.TheVariants as form
+use Rattle.c_stmt_parts.specs.Read.{form_of, annot_close_at, close_by}
 
 -- ---- one token
 

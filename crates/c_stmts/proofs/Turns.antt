@@ -13,10 +13,11 @@ use Rattle.c_grammar.specs.Tokens.{Names, first_line}
 use Rattle.c_types.specs.Read.{starts_type}
 use Rattle.c_grammar.specs.Reading.{Reader, ◌>>=◌, punct_at, keyword_at}
 use Rattle.c_grammar.specs.Views.{Gives}
-use Rattle.c_stmts.specs.declared.forms.Form.{Form}
-use Rattle.c_stmts.specs.declared.forms.Form.TheVariants as form
+use Rattle.c_stmt_parts.specs.declared.forms.Form.{Form}
+use Rattle.c_stmt_parts.specs.declared.forms.Form.TheVariants as form
 use Rattle.c_grammar.specs.Annots.{loop_of}
-use Rattle.c_stmts.specs.Read.{Starting, Inside, form_of, beside, assertion_at, loop_annot_at, item, braces, choice, looped, switch_of, plain_at, opened, annotated, annotated_by, locals_at, local_by, started, stmt_by, stmt_of, stmt, stmts}
+use Rattle.c_stmt_parts.specs.Read.{form_of, assertion_at, loop_annot_at, plain_at, locals_at}
+use Rattle.c_stmts.specs.Read.{Starting, Inside, beside, item, braces, choice, looped, switch_of, opened, annotated, annotated_by, local_by, started, stmt_by, stmt_of, stmt, stmts}
 use Rattle.c_stmts.specs.Views.{stmt_with, before, with_stmts}
 
 -- ---- a statement by what may stand in it

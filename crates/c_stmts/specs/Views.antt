@@ -3,16 +3,11 @@ use Rattle.std.specs.Prelude.{◌≡◌, ℕ, List, [], ◌∷◌, ◌++◌, map
 use Rattle.std.specs.Option.{option_map}
 use Rattle.c_syntax.specs.declared.token.Token.{Token}
 use Rattle.c_syntax.specs.declared.stmt.Stmt.{Stmt}
-use Rattle.c_syntax.specs.Expr as e
 use Rattle.c_syntax.specs.Stmt as s
-use Rattle.c_syntax.specs.View.{view_expr, view_stmt}
+use Rattle.c_syntax.specs.View.{view_stmt}
 use Rattle.c_grammar.specs.Reading.{◌>>=◌}
-use Rattle.c_stmts.specs.declared.parts.Head.{Head}
 use Rattle.c_stmts.specs.declared.blocks.Body.{Body}
 use Rattle.c_stmts.specs.Read as r
-
-abbrev pub view_head : Head → s.Stmt × Option e.Expr × Option e.Expr
-view_head h = (view_stmt h.first, option_map view_expr h.test, option_map view_expr h.next)
 
 -- a statement with the lines on which statements began
 abbrev pub stmt_with : List ℕ → Stmt → s.Stmt × List ℕ

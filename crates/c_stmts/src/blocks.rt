@@ -6,9 +6,9 @@ ghost use Rattle.c_stmts.specs.Read as spec;
 ghost use Rattle.c_stmts.specs.Spelled.{SpellsBodyAt};
 ghost use Rattle.c_stmts.specs.Views.{view_body};
 
-use crate::parts::Around;
 use crate::stmts::stmts;
 use c_grammar::{Fault, expect};
+use c_stmt_parts::Around;
 use c_syntax::{Punct, Stmt, Token};
 use std::alloc::Global;
 use wp_base::{Line, List, Str};

@@ -2,10 +2,6 @@
 #![tactic(auto)]
 
 mod blocks;
-mod forms;
-mod labels;
-mod nodes;
-mod parts;
 mod stmts;
 
 pub use blocks::{Body, block_at};

@@ -5,14 +5,12 @@ ghost use Rattle.c_syntax.specs.View.{view_expr, view_loop, view_stmt};
 ghost use Rattle.c_stmts.specs.Read as spec;
 ghost use Rattle.c_stmts.specs.Views.{other_with, stmt_with, stmts_with};
 
-use crate::forms::{Form, form_of};
-use crate::labels::is_switch;
-use crate::nodes::{block_of, do_of, for_of, if_of, no_annot, switch_of, while_of};
-use crate::parts::{
-    Around, assertion_at, case_at, default_at, do_end_at, first_line, head_at, locals_at,
-    loop_annot_at, plain_at, test_at,
-};
 use c_grammar::{Fault, expect, keyword_at, punct_at, word_at};
+use c_stmt_parts::{
+    Around, Form, assertion_at, block_of, case_at, default_at, do_end_at, do_of, first_line,
+    for_of, form_of, head_at, if_of, is_switch, locals_at, loop_annot_at, no_annot, plain_at,
+    switch_of, test_at, while_of,
+};
 use c_syntax::{LoopAnnot, Punct, Stmt, Token, Word};
 use c_types::starts_type;
 use std::alloc::Global;

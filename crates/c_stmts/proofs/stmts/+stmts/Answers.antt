@@ -3,7 +3,8 @@ use Rattle.std.proofs.lemmas.List.{map-append}
 use Rattle.std.proofs.lemmas.Result.{err_from_is_err_and}
 use Rattle.c_syntax.specs.View.{view_stmt}
 use Rattle.c_grammar.specs.Tokens.{first_line}
-use Rattle.c_stmts.specs.Read.{item, locals_at, stmts, stmt}
+use Rattle.c_stmt_parts.specs.Read.{locals_at}
+use Rattle.c_stmts.specs.Read.{item, stmts, stmt}
 use Rattle.c_stmts.specs.Views.{stmt_with, stmts_with, with_stmts}
 use Rattle.c_stmts.proofs.Turns.{item_local, beside_reads, stmts_end, stmts_turn, stmts_fault}
 use Rattle.c_stmts.proofs.stmts.+stmts.Goals as goal

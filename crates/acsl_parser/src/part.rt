@@ -1,0 +1,34 @@
+// Clauses that stand together (ACSL 2.3, 2.4.2, 2.5).
+ghost use Rattle.std.specs.Prelude.{◌≤◌};
+ghost use Rattle.c_grammar.specs.Views.{Gives};
+ghost use Rattle.acsl_clauses.specs.Views.{view_sorted};
+ghost use Rattle.acsl_parser.specs.Read as spec;
+
+use crate::items::items_at;
+use acsl_clauses::{Part, Sorted, are_in, are_single, sort};
+use c_grammar::Fault;
+use c_syntax::Token;
+use std::alloc::Global;
+use wp_base::Str;
+
+/// Clauses that may stand together in this part.
+#[tactic(auto, unfolding(crate::specs::Read::part_at))]
+pub fn part_at<'a>(
+    alloc: Global,
+    part: Part,
+    types: &[Str],
+    room: u32,
+    end: usize,
+    tokens: &'a [Token],
+) -> Result<(Sorted, &'a [Token]), Fault>
+    requires { room ≤ 200 }
+    ensures { Gives view_sorted result (spec.part_at part types.now room end tokens.now) }
+{
+    let (items, rest) = items_at(alloc, types, room, end, tokens)?;
+    let in_part = are_in(part, &items);
+    let sorted = sort(alloc, items)?;
+    if !in_part || !are_single(&sorted) {
+        return Err(Fault::Syntax);
+    }
+    Ok((sorted, rest))
+}

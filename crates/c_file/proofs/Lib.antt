@@ -1,0 +1,6 @@
+pub mod Tokens
+pub mod Sound
+pub mod Reading
+pub mod FirstTokens
+pub mod Parts
+pub mod Complete

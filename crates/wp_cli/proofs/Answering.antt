@@ -9,12 +9,12 @@ use Rattle.wp_base.specs.declared.answers.Rule.TheVariants as rule
 use Rattle.wp_base.specs.declared.answers.Status.{Status}
 use Rattle.wp_base.specs.declared.answers.Status.TheVariants as status
 use Rattle.core_prog.specs.Tree.{Program}
-use Rattle.c_reader.specs.Program.{Spells}
+use Rattle.c_front.specs.Text.{Spells}
 use Rattle.wp_cli.specs.declared.answer.Answer.{Answer}
 use Rattle.wp_cli.specs.Report.{all_proved, report_text, refusal_line}
 use Rattle.wp_cli.specs.AnswerView.{status_of, ReportAnswers}
 use Rattle.wp_cli.specs.Top.{AnswersFile}
-use Rattle.wp_cli.specs.Answers.{limit, HasFault, too_long, outside, Answers, proved, unknown, refused}
+use Rattle.wp_cli.specs.Answers.{limit, HasFault, too_long, Answers, proved, unknown, refused}
 
 -- a report answers the text that spells the program
 pub report_answers : (shows : Bool) (text : List ℕ) (p : Program) (result : Status) (bytes : List ℕ) → length text ≤ limit → Spells text p → ReportAnswers shows p result bytes → Answers shows text result bytes
@@ -45,7 +45,3 @@ too_long_file shows None opened left result bytes whole more says = record { tex
 too_long_file shows (Some held) opened left result bytes whole more says =
     let longer : limit < length held = subst (λ (o : Option (List ℕ)). IfSome o (λ text. limit < length text)) whole more.longer in
     record { text = held; read = refl; answer = says held longer shows }
-
--- a text that the reader refuses spells no program
-pub no_program : (text : List ℕ) (r : Refusal) → length text ≤ limit → ((p : Program) → Spells text p → stop.Refused r ≡ stop.NoMemory) → r ≡ record { rule = rule.Syntax; line = 1 } → HasFault text r
-no_program text r within none is = subst (HasFault text) (sym is) (outside within (λ p spelled. let e = none p spelled in absurd cc))

@@ -15,13 +15,14 @@ use Rattle.qed_terms.specs.Setting.{Setting, world_of, Valid}
 use Rattle.qed_simplify.proofs.Laws.{normal-keeps}
 use Rattle.core_prog.specs.Names.{all_differ, is_well_named, is_well_named_program}
 use Rattle.core_prog.specs.Tree.{Program, Function}
-use Rattle.c_reader.specs.Program.{Spells}
+use Rattle.c_front.specs.Text.{Spells}
+use Rattle.c_front.proofs.Laws.{no_fault as none_faulty, core_named}
 use Rattle.wp_calculus.specs.Goals.{Goal, goals, formula_of}
 use Rattle.wp_calculus.specs.Theorems.{plain_setting, NoneFailsAt}
 use Rattle.wp_calculus.proofs.Exact.{goals_are_exact, failures_have_goals}
 use Rattle.wp_calculus.proofs.Runs.{segments_to_runs}
 use Rattle.wp_cli.specs.Report.{Judged, Reported, is_proved, goals_proved}
-use Rattle.wp_cli.specs.Answers.{limit, IsProved, IsVerdict, IsJudged, AreJudged, IsReported, IsReportOf, HasFault, too_long, outside, Answers, proved, unknown, refused}
+use Rattle.wp_cli.specs.Answers.{limit, IsProved, IsVerdict, IsJudged, AreJudged, IsReported, IsReportOf, HasFault, too_long, faulty, Answers, proved, unknown, refused}
 use Rattle.wp_cli.specs.Command.{Command, command_of, asks, shows_goals}
 use Rattle.wp_cli.proofs.Judging.{each_at, partner_at}
 use Rattle.wp_cli.specs.Top.{told, OnReport, IsRead, AnswersFile, WritesReport, ProvedGoalsAreValid, ProvedFunctionsAreCorrect, GoalsAreExactIn, IsAnsweredBy}
@@ -88,14 +89,14 @@ pub valid_claim : (shows : Bool) (text : List ℕ) (p : Program) (rs : List Repo
 valid_claim shows text p rs spelled judged = valid shows p rs judged
 
 pub correct_claim : (shows : Bool) (text : List ℕ) (p : Program) (rs : List Reported) → Spells text p → IsReportOf shows p rs → ProvedFunctionsAreCorrect p rs
-correct_claim shows text p rs spelled judged = correct shows p rs spelled.3 judged
+correct_claim shows text p rs spelled judged = correct shows p rs (core_named text p spelled) judged
 
 pub exact_claim : (shows : Bool) (text : List ℕ) (p : Program) (rs : List Reported) → Spells text p → IsReportOf shows p rs → GoalsAreExactIn p rs
-exact_claim shows text p rs spelled judged = exact p rs spelled.3
+exact_claim shows text p rs spelled judged = exact p rs (core_named text p spelled)
 
 no_fault : (text : List ℕ) (p : Program) (r : Refusal) → length text ≤ limit → Spells text p → HasFault text r → ⊥
 no_fault text p r within spelled (too_long more) = omega (arith, within, more)
-no_fault text p r within spelled (outside le none) = none p spelled
+no_fault text p r within spelled (faulty x le fault) = none_faulty text p x spelled fault
 
 answered_by : (shows : Bool) (text : List ℕ) (result : Status) (bytes : List ℕ) → Answers shows text result bytes → IsAnsweredBy text result
 answered_by shows text result bytes (proved p rs within spelled judged all) = record { spelled = λ p w s. inl (inl refl); faulty = λ r fault. absurd (no_fault text p r within spelled fault) }

@@ -8,7 +8,8 @@ use Rattle.qed_terms.specs.declared.verdict.Verdict.{Verdict}
 use Rattle.qed_terms.specs.declared.verdict.Verdict.TheVariants as verdict
 use Rattle.qed_terms.specs.Tree.{Tree, true_tree, goal_of}
 use Rattle.core_prog.specs.Tree.{Function, Program}
-use Rattle.c_reader.specs.Program.{Spells}
+use Rattle.c_front.specs.Text.{Spells}
+use Rattle.c_front.specs.Text as front
 use Rattle.qed_simplify.specs.Rules.{step}
 use Rattle.qed_simplify.specs.Normal.{Normal}
 use Rattle.goal_text.specs.Text.{goal_text}
@@ -65,10 +66,10 @@ IsReportOf shows = EachIsSo (IsReported shows)
 
 -- ---- faults of a text
 
--- The one fault of a text: it is too long, or it spells no program. Both are said of line 1.
+-- The one fault of a text: it is too long, which is said of line 1, or it has a fault of tokens, of grammar, of a limit, or isn't built.
 pub data HasFault (text : List ℕ) : Refusal → Type 0 where
   too_long : limit < length text → HasFault text (record { rule = rule.Limit; line = 1 })
-  outside : length text ≤ limit → ((p : Program) → Spells text p → ⊥) → HasFault text (record { rule = rule.Syntax; line = 1 })
+  faulty : (r : Refusal) → length text ≤ limit → front.HasFault text r → HasFault text r
 
 -- ---- answers
 

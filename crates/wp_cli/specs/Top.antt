@@ -9,7 +9,7 @@ use Rattle.wp_io.specs.Writes.{TakesFront}
 use Rattle.qed_terms.specs.declared.verdict.Verdict.TheVariants as verdict
 use Rattle.qed_terms.specs.Setting.{Valid}
 use Rattle.core_prog.specs.Tree.{Program, Function}
-use Rattle.c_reader.specs.Program.{Spells}
+use Rattle.c_front.specs.Text.{Spells}
 use Rattle.wp_calculus.specs.Machine.{IsCorrect}
 use Rattle.wp_calculus.specs.Goals.{Goal, goals, formula_of}
 use Rattle.wp_calculus.specs.Theorems.{plain_setting, IsExact}

@@ -9,7 +9,7 @@ ghost use Rattle.wp_cli.specs.ReportView.{view_function, view_goal};
 use crate::refusals::refusal_text;
 use crate::report::{FunctionReport, ReportGoal, report_text};
 use crate::verdicts::judge_program;
-use c_reader::read_program;
+use c_front::read_program;
 use core_prog::Core;
 use qed_terms::Verdict;
 use std::alloc::Global;

@@ -6,8 +6,10 @@ use crate::texts::{
     INC_GOALS, MET, MET_GOALS, PICK, PICK_GOALS, RETURNED, RETURNED_GOALS, UNSET, UNSET_GOALS,
     without_goals,
 };
+use itoa::Buffer;
+use std::alloc::Global;
 use std::test::Fail;
-use wp_base::{Status, Str};
+use wp_base::{NoMemory, Status, Str};
 use wp_cli::wp_main;
 use wp_io::{StillFiles, StillSink};
 
@@ -25,7 +27,7 @@ const SHOWN: [(&[u8], &[u8], Status); 9] = [
 ];
 
 // Texts, what is written and how the run ends.
-const ANSWERS: [(&[u8], &[u8], Status); 12] = [
+const ANSWERS: [(&[u8], &[u8], Status); 17] = [
     (b"", b"goals 0 proved 0 unknown 0\n", Status::AllProved),
     (
         b"/*@ requires a < b; ensures \\result + b == b + a; */ int left(int a, int b) { return a; }",
@@ -71,19 +73,45 @@ const ANSWERS: [(&[u8], &[u8], Status); 12] = [
         b"refused line 1: 3 syntax\n",
         Status::Refused,
     ),
+    // By longest match, as C has it: the tokens are `a`, `--` and `b`.
     (
-        b"int f(int a) { return a--b; }",
+        b"int f(int a, int b) { return a--b; }",
         b"refused line 1: 3 syntax\n",
         Status::Refused,
     ),
     (
         b"\n\nint f(int a) { return b; }",
-        b"refused line 1: 3 syntax\n",
+        b"refused line 1: 10 unbuilt\n",
         Status::Refused,
     ),
     (
         b"int f(int \xc3\xa9) { return 0; }",
-        b"refused line 1: 3 syntax\n",
+        b"refused line 1: 1 lexical\n",
+        Status::Refused,
+    ),
+    (
+        b"int f(int a) { return a; } // end",
+        b"goals 0 proved 0 unknown 0\n",
+        Status::AllProved,
+    ),
+    (
+        b"int f(int *p) { return *p; }",
+        b"refused line 1: 10 unbuilt\n",
+        Status::Refused,
+    ),
+    (
+        b"int f(int a) { if (a) if (a) return 1; else return 2; return 3; }",
+        b"goals 0 proved 0 unknown 0\n",
+        Status::AllProved,
+    ),
+    (
+        b"/*@ requires",
+        b"refused line 1: 1 lexical\n",
+        Status::Refused,
+    ),
+    (
+        b"float f(void) { return 0; }",
+        b"refused line 1: 2 word\n",
         Status::Refused,
     ),
 ];
@@ -136,6 +164,67 @@ fn takes_texts_up_to_the_limit(rt: HostRuntime) -> Result<(), Fail> {
         assert_eq!(rt; run(alloc, &[NAME], &mut files, &mut out)?, status);
         assert_eq!(rt; out.taken.as_slice(), written);
         text.push(b' ')?;
+    }
+    Ok(())
+}
+
+// Runs on a text that may be long.
+fn is_answered(
+    alloc: Global,
+    text: &[u8],
+    written: &[u8],
+    status: Status,
+) -> Result<bool, NoMemory> {
+    let mut files = file(alloc, NAME, text, 4096, &[])?;
+    let mut out = sink(alloc, ROOM, 64, &[])?;
+    let ended = run(alloc, &[NAME], &mut files, &mut out)?;
+    Ok(ended == status && out.taken.as_slice() == written)
+}
+
+// A number in so many pairs of parentheses, of which at most 200 forms may be open, that of the body among them.
+#[test]
+fn counts_open_brackets(rt: HostRuntime) -> Result<(), Fail> {
+    let alloc = rt.alloc();
+    let rows: [(usize, &[u8], Status); 2] = [
+        (199, b"goals 0 proved 0 unknown 0\n", Status::AllProved),
+        (200, b"refused line 1: 3 syntax\n", Status::Refused),
+    ];
+    for (pairs, written, status) in rows {
+        let mut text = Vec::new(alloc);
+        text.extend_from_slice(b"int f(void) { return ")?;
+        let opened = text.len() + pairs;
+        text.resize(opened, b'(')?;
+        text.push(b'0')?;
+        let closed = text.len() + pairs;
+        text.resize(closed, b')')?;
+        text.extend_from_slice(b"; }")?;
+        assert!(rt; is_answered(alloc, text.as_slice(), written, status)?);
+    }
+    Ok(())
+}
+
+// So many functions, each on a line of its own.
+fn functions(alloc: Global, count: u32) -> Result<Vec<u8>, NoMemory> {
+    let mut text = Vec::new(alloc);
+    let mut buffer = Buffer::new();
+    for number in 0..count {
+        text.extend_from_slice(b"int f")?;
+        text.extend_from_slice(buffer.format(number).as_bytes())?;
+        text.extend_from_slice(b"(void) { return 0; }\n")?;
+    }
+    Ok(text)
+}
+
+#[test]
+fn counts_functions(rt: HostRuntime) -> Result<(), Fail> {
+    let alloc = rt.alloc();
+    let rows: [(u32, &[u8], Status); 2] = [
+        (500, b"goals 0 proved 0 unknown 0\n", Status::AllProved),
+        (501, b"refused line 501: 4 limit\n", Status::Refused),
+    ];
+    for (count, written, status) in rows {
+        let text = functions(alloc, count)?;
+        assert!(rt; is_answered(alloc, text.as_slice(), written, status)?);
     }
     Ok(())
 }

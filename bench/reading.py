@@ -15,7 +15,7 @@ TOP = os.path.dirname(os.path.dirname(os.path.abspath(__file__)))
 LIMIT = 1048576
 MEMORY = [4, 8, 12, 16, 24, 32, 48, 64, 96, 128, 192, 256]
 LEXER = ["wp_base", "wp_io", "c_syntax", "c_lexer"]
-PARSER = ["c_grammar", "c_types", "c_exprs", "c_decls", "acsl_terms", "acsl_preds", "acsl_parser", "c_stmts", "c_parser"]
+PARSER = ["c_grammar", "c_types", "c_exprs", "c_decls", "acsl_terms", "acsl_preds", "acsl_clauses", "acsl_parser", "c_stmt_parts", "c_stmts", "c_file", "c_parser"]
 
 MAIN = r"""//! Reads a file, and tells by its status whether it is read whole.
 #![tactic(auto)]
@@ -152,10 +152,10 @@ def build(room, trees):
 
 
 def run(program, path, megabytes=None):
-    """The seconds that the program takes on a file, and its status; with at most so much memory, where it is said."""
-    words = [program, path]
-    if megabytes:
-        words = ["sh", "-c", 'ulimit -v "$1"; exec "$2" "$3"', "sh", str(megabytes * 1024), program, path]
+    """The seconds that the program takes on a file, and its status; with at most so much memory, where it is said. The
+    stack isn't limited, as ./wp asks."""
+    limits = "ulimit -s unlimited 2>/dev/null; " + (f"ulimit -v {megabytes * 1024}; " if megabytes else "")
+    words = ["sh", "-c", limits + 'exec "$1" "$2"', "sh", program, path]
     start = time.monotonic()
     status = subprocess.run(words, capture_output=True).returncode
     return time.monotonic() - start, status

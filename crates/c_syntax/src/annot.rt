@@ -6,7 +6,6 @@ use crate::token::Token;
 use wp_base::{Boxed, Line, List, Str};
 
 /// A term (ACSL 2.2), with the line of its token or operator.
-#[derive(Drop)]
 #[cycle(term)]
 pub struct Term {
     pub node: TermNode,
@@ -44,7 +43,6 @@ pub enum TermNode {
 }
 
 /// A predicate (ACSL 2.2), with the line of its token or operator.
-#[derive(Drop)]
 #[cycle(pred)]
 pub struct Pred {
     pub node: PredNode,
@@ -74,6 +72,122 @@ pub enum PredNode {
     Separated(List<Term>),
     Old(Boxed<Pred>),
     Call(Str, List<Term>),
+}
+
+// Goes down the operands on the left by a loop, since these may be as many as there are tokens.
+impl Drop for Term {
+    fn drop(mut self) {
+        loop {
+            let Term { node, line: _ } = self;
+            match node {
+                TermNode::Binary(_, left, right) => {
+                    drop(right);
+                    self = left.into_inner();
+                }
+                TermNode::Index(of, at) => {
+                    drop(at);
+                    self = of.into_inner();
+                }
+                TermNode::Field { of, name, arrow: _ } => {
+                    drop(name);
+                    self = of.into_inner();
+                }
+                TermNode::Unary(_, of) => self = of.into_inner(),
+                TermNode::Cast(ty, of) => {
+                    drop(ty);
+                    self = of.into_inner();
+                }
+                TermNode::Old(of) => self = of.into_inner(),
+                TermNode::At(of, label) => {
+                    drop(label);
+                    self = of.into_inner();
+                }
+                TermNode::Cond(test, first, second) => {
+                    drop(test);
+                    drop(first);
+                    self = second.into_inner();
+                }
+                TermNode::Range(low, high) => {
+                    drop(low);
+                    self = high.into_inner();
+                }
+                TermNode::Number(token) => return drop(token),
+                TermNode::Char(_) => return,
+                TermNode::Name(name) => return drop(name),
+                TermNode::Call(name, args) => {
+                    drop(name);
+                    return drop(args);
+                }
+                TermNode::Result => return,
+                TermNode::Null => return,
+            }
+        }
+    }
+}
+
+// Goes down the operands on the left, and what is inside quantifiers and `\let`, by a loop, since these may be as many as there are
+// tokens.
+impl Drop for Pred {
+    fn drop(mut self) {
+        loop {
+            let Pred { node, line: _ } = self;
+            match node {
+                PredNode::And(left, right) => {
+                    drop(right);
+                    self = left.into_inner();
+                }
+                PredNode::Xor(left, right) => {
+                    drop(right);
+                    self = left.into_inner();
+                }
+                PredNode::Or(left, right) => {
+                    drop(right);
+                    self = left.into_inner();
+                }
+                PredNode::Iff(left, right) => {
+                    drop(right);
+                    self = left.into_inner();
+                }
+                PredNode::Implies(left, right) => {
+                    drop(left);
+                    self = right.into_inner();
+                }
+                PredNode::Not(inside) => self = inside.into_inner(),
+                PredNode::Old(inside) => self = inside.into_inner(),
+                PredNode::Cond(test, first, second) => {
+                    drop(test);
+                    drop(first);
+                    self = second.into_inner();
+                }
+                PredNode::Let(name, value, inside) => {
+                    drop(name);
+                    drop(value);
+                    self = inside.into_inner();
+                }
+                PredNode::Forall(binders, inside) => {
+                    drop(binders);
+                    self = inside.into_inner();
+                }
+                PredNode::Exists(binders, inside) => {
+                    drop(binders);
+                    self = inside.into_inner();
+                }
+                PredNode::Chain(terms, ops) => {
+                    drop(terms);
+                    return drop(ops);
+                }
+                PredNode::Valid(pointer) => return drop(pointer),
+                PredNode::ValidRead(pointer) => return drop(pointer),
+                PredNode::Separated(pointers) => return drop(pointers),
+                PredNode::Call(name, args) => {
+                    drop(name);
+                    return drop(args);
+                }
+                PredNode::True => return,
+                PredNode::False => return,
+            }
+        }
+    }
 }
 
 /// A predicate of a contract or of a loop, with the line of its keyword and the place of its first

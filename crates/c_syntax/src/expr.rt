@@ -42,7 +42,6 @@ pub enum BinOp {
 }
 
 /// A type as spelled.
-#[derive(Drop)]
 #[cycle(expr)]
 pub enum CType {
     Void,
@@ -60,11 +59,81 @@ pub enum CType {
 }
 
 /// An expression, with the line of its token or operator.
-#[derive(Drop)]
 #[cycle(expr)]
 pub struct Expr {
     pub node: ExprNode,
     pub line: Line,
+}
+
+// Goes down the stars of a type by a loop, since these may be as many as there are tokens.
+impl Drop for CType {
+    #[cycle(expr_drop)]
+    fn drop(mut self) {
+        loop {
+            match self {
+                CType::Pointer(of) => self = of.into_inner(),
+                CType::Array(of, _) => self = of.into_inner(),
+                CType::Const(of) => self = of.into_inner(),
+                CType::Struct(_) => return,
+                CType::Enum(_) => return,
+                CType::Named(_) => return,
+                CType::Void => return,
+                CType::Kind(_) => return,
+                CType::Integer => return,
+            }
+        }
+    }
+}
+
+// Goes down the operands on the left, and the values of assignments, by a loop, since these may be as many as there are tokens.
+impl Drop for Expr {
+    #[cycle(expr_drop)]
+    fn drop(mut self) {
+        loop {
+            let Expr { node, line: _ } = self;
+            match node {
+                ExprNode::Binary(_, left, right) => {
+                    drop(right);
+                    self = left.into_inner();
+                }
+                ExprNode::Assign(_, to, value) => {
+                    drop(to);
+                    self = value.into_inner();
+                }
+                ExprNode::Index(of, at) => {
+                    drop(at);
+                    self = of.into_inner();
+                }
+                ExprNode::Field { of, name, arrow: _ } => {
+                    drop(name);
+                    self = of.into_inner();
+                }
+                ExprNode::Step {
+                    up: _,
+                    prefix: _,
+                    of,
+                } => self = of.into_inner(),
+                ExprNode::Unary(_, of) => self = of.into_inner(),
+                ExprNode::Cast(ty, of) => {
+                    drop(ty);
+                    self = of.into_inner();
+                }
+                ExprNode::Cond(test, first, second) => {
+                    drop(test);
+                    drop(first);
+                    self = second.into_inner();
+                }
+                ExprNode::Number(token) => return drop(token),
+                ExprNode::Char(_) => return,
+                ExprNode::Name(name) => return drop(name),
+                ExprNode::Call(name, args) => {
+                    drop(name);
+                    return drop(args);
+                }
+                ExprNode::SizeOf(ty) => return drop(ty),
+            }
+        }
+    }
 }
 
 #[derive(Drop)]

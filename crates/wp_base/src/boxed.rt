@@ -6,7 +6,6 @@ use std::marker::Model;
 
 /// A value in memory of its own. Contracts see it as the value, so two boxes with the same value are
 /// equal, and a tree may hold boxes of its own kind.
-#[derive(Drop)]
 pub struct Boxed<T> {
     inner: Box<T>,
 }
@@ -29,7 +28,15 @@ impl<T> Boxed<T> {
     pub fn into_inner(self) -> T
         ensures { result ≡ self }
     {
-        Box::into_inner(self.inner)
+        let Boxed { inner } = self;
+        Box::into_inner(inner)
+    }
+}
+
+// Written out, so that the type in the box may have a drop that goes down a chain of boxes by a loop.
+impl<T: Drop> Drop for Boxed<T> {
+    fn drop(self) {
+        drop(self.into_inner());
     }
 }
 

@@ -7,7 +7,6 @@ use std::marker::Model;
 
 /// A growing list. Contracts see it as the list of its items, so two lists with the same items are
 /// equal, wherever they lie in memory, and a tree may hold lists of its own kind.
-#[derive(Drop)]
 pub struct List<T> {
     items: Vec<T>,
 }
@@ -21,6 +20,13 @@ impl<T> Model for List<T> {
     ghost coded = { coded_list T.code };
 
     ghost view = { λ list. list.items.items };
+}
+
+// Written out, so that the items may have a drop that goes down a chain of boxes by a loop.
+impl<T: Drop> Drop for List<T> {
+    fn drop(self) {
+        drop(self.into_vec());
+    }
 }
 
 impl<T> List<T> {
@@ -44,7 +50,8 @@ impl<T> List<T> {
     pub fn into_vec(self) -> Vec<T>
         ensures { result.items ≡ self }
     {
-        self.items
+        let List { items } = self;
+        items
     }
 
     pub fn as_slice(&self) -> &[T]

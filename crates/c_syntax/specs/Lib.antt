@@ -5,3 +5,4 @@ pub mod Contract
 pub mod Stmt
 pub mod Decl
 pub mod View
+pub mod Layers

@@ -125,35 +125,55 @@ impl Drop for Term {
     }
 }
 
-// Goes down the operands on the left, and what is inside quantifiers and `\let`, by a loop, since these may be as many as there are
-// tokens.
+impl Pred {
+    // Whether a quantifier or `\let` stands at its right end: what is inside may be as deep as there are tokens, while what stands on
+    // the left of it is closed.
+    fn ends_open(&self) -> bool {
+        let mut end = self;
+        loop {
+            match &end.node {
+                PredNode::And(_, right)
+                | PredNode::Xor(_, right)
+                | PredNode::Or(_, right)
+                | PredNode::Iff(_, right)
+                | PredNode::Implies(_, right)
+                | PredNode::Cond(_, _, right)
+                | PredNode::Not(right) => end = right.get(),
+                PredNode::Forall(_, _) | PredNode::Exists(_, _) | PredNode::Let(_, _, _) => {
+                    return true;
+                }
+                PredNode::True
+                | PredNode::False
+                | PredNode::Chain(_, _)
+                | PredNode::Valid(_)
+                | PredNode::ValidRead(_)
+                | PredNode::Separated(_)
+                | PredNode::Old(_)
+                | PredNode::Call(_, _) => return false,
+            }
+        }
+    }
+}
+
+// Goes down by a loop what may be as long as there are tokens: the operands on the left, and what is inside quantifiers and `\let`.
 impl Drop for Pred {
     fn drop(mut self) {
         loop {
             let Pred { node, line: _ } = self;
             match node {
-                PredNode::And(left, right) => {
-                    drop(right);
-                    self = left.into_inner();
+                PredNode::And(left, right)
+                | PredNode::Xor(left, right)
+                | PredNode::Or(left, right)
+                | PredNode::Iff(left, right)
+                | PredNode::Implies(left, right) => {
+                    if right.get().ends_open() {
+                        drop(left);
+                        self = right.into_inner();
+                    } else {
+                        drop(right);
+                        self = left.into_inner();
+                    }
                 }
-                PredNode::Xor(left, right) => {
-                    drop(right);
-                    self = left.into_inner();
-                }
-                PredNode::Or(left, right) => {
-                    drop(right);
-                    self = left.into_inner();
-                }
-                PredNode::Iff(left, right) => {
-                    drop(right);
-                    self = left.into_inner();
-                }
-                PredNode::Implies(left, right) => {
-                    drop(left);
-                    self = right.into_inner();
-                }
-                PredNode::Not(inside) => self = inside.into_inner(),
-                PredNode::Old(inside) => self = inside.into_inner(),
                 PredNode::Cond(test, first, second) => {
                     drop(test);
                     drop(first);
@@ -164,27 +184,22 @@ impl Drop for Pred {
                     drop(value);
                     self = inside.into_inner();
                 }
-                PredNode::Forall(binders, inside) => {
+                PredNode::Forall(binders, inside) | PredNode::Exists(binders, inside) => {
                     drop(binders);
                     self = inside.into_inner();
                 }
-                PredNode::Exists(binders, inside) => {
-                    drop(binders);
-                    self = inside.into_inner();
-                }
+                PredNode::Not(inside) | PredNode::Old(inside) => self = inside.into_inner(),
                 PredNode::Chain(terms, ops) => {
                     drop(terms);
                     return drop(ops);
                 }
-                PredNode::Valid(pointer) => return drop(pointer),
-                PredNode::ValidRead(pointer) => return drop(pointer),
+                PredNode::Valid(pointer) | PredNode::ValidRead(pointer) => return drop(pointer),
                 PredNode::Separated(pointers) => return drop(pointers),
                 PredNode::Call(name, args) => {
                     drop(name);
                     return drop(args);
                 }
-                PredNode::True => return,
-                PredNode::False => return,
+                PredNode::True | PredNode::False => return,
             }
         }
     }

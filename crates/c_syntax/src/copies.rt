@@ -7,6 +7,7 @@ mod preds;
 mod stmts;
 mod terms;
 mod tokens;
+mod types;
 
 pub use decls::copy_vars;
 pub use terms::copy_terms;

@@ -1,32 +1,9 @@
-// Copies of types and expressions.
+// Copies of expressions.
 ghost use Rattle.std.specs.Prelude.{◌≡◌, IfOk};
 
-use crate::expr::{CType, Expr, ExprNode};
+use crate::expr::{Expr, ExprNode};
 use std::alloc::Global;
 use wp_base::{Boxed, List, NoMemory};
-
-impl CType {
-    /// A copy, which equals its source.
-    #[cycle(expr_copy)]
-    pub fn copy(&self, alloc: Global) -> Result<CType, NoMemory>
-        ensures { IfOk result (λ copy. copy ≡ self.now) }
-    {
-        match self {
-            CType::Void => Ok(CType::Void),
-            CType::Kind(kind) => Ok(CType::Kind(*kind)),
-            CType::Integer => Ok(CType::Integer),
-            CType::Struct(name) => Ok(CType::Struct(name.copy(alloc)?)),
-            CType::Enum(name) => Ok(CType::Enum(name.copy(alloc)?)),
-            CType::Named(name) => Ok(CType::Named(name.copy(alloc)?)),
-            CType::Pointer(to) => Ok(CType::Pointer(copy_type(to, alloc)?)),
-            CType::Array(of, length) => {
-                let of = copy_type(of, alloc)?;
-                Ok(CType::Array(of, copy_boxed(length, alloc)?))
-            }
-            CType::Const(of) => Ok(CType::Const(copy_type(of, alloc)?)),
-        }
-    }
-}
 
 impl Expr {
     /// A copy, which equals its source.
@@ -101,13 +78,6 @@ fn copy_boxed(expr: &Boxed<Expr>, alloc: Global) -> Result<Boxed<Expr>, NoMemory
     ensures { IfOk result (λ copy. copy ≡ expr.now) }
 {
     Boxed::new(alloc, expr.get().copy(alloc)?)
-}
-
-#[cycle(expr_copy)]
-fn copy_type(ty: &Boxed<CType>, alloc: Global) -> Result<Boxed<CType>, NoMemory>
-    ensures { IfOk result (λ copy. copy ≡ ty.now) }
-{
-    Boxed::new(alloc, ty.get().copy(alloc)?)
 }
 
 #[cycle(expr_copy)]

@@ -3,13 +3,15 @@ ghost use Rattle.std.specs.Prelude.{◌≡◌};
 ghost use Rattle.core_prog.specs.View.{view_expr};
 ghost use Rattle.c_syntax.specs.View.{view_expr as expr_tree, view_term as term_tree};
 ghost use Rattle.c_core.specs.Core as spec;
+ghost use Rattle.c_core.specs.Joined as joins;
 ghost use Rattle.c_core.specs.Made.{Makes};
 
+use crate::joins::{How, Join, join_all};
 use crate::unmade::Unmade;
 use c_syntax::{Base, BinOp, ExprNode, Suffix, Term, TermNode, Token, TokenKind};
 use core_prog::{Comparison, Expr, SumOp};
 use std::alloc::Global;
-use wp_base::{Line, Str, box_both};
+use wp_base::Str;
 
 /// The greatest `int`.
 const MOST_INT: i128 = 2_147_483_647;
@@ -85,80 +87,109 @@ pub fn comparison_of(op: BinOp) -> Option<Comparison>
     }
 }
 
-// A sum of two terms.
-#[tactic(auto, using(core_prog::proofs::Equations::view_laws))]
-fn added(alloc: Global, line: Line, op: BinOp, left: Expr, right: Expr) -> Result<Expr, Unmade>
-    ensures { Makes view_expr result (spec.added line (spec.sum_of op) (view_expr left) (view_expr right)) }
+// How an operator joins terms, if it does.
+fn added_by(op: BinOp) -> Option<How>
+    ensures { result ≡ joins.added_by op }
 {
-    let Some(sum) = sum_of(op) else {
-        return Err(Unmade::Unbuilt);
-    };
-    let (left, right) = box_both(alloc, left, right)?;
-    Ok(Expr::Sum(sum, line, left, right))
+    match sum_of(op) {
+        Some(op) => Some(How::Sum(op)),
+        None => None,
+    }
 }
 
-// A sum or a comparison of two expressions.
-#[tactic(auto, using(core_prog::proofs::Equations::view_laws))]
-fn joined(alloc: Global, line: Line, op: BinOp, left: Expr, right: Expr) -> Result<Expr, Unmade>
-    ensures { Makes view_expr result (spec.joined line op (view_expr left) (view_expr right)) }
+// How an operator joins expressions, if it does.
+fn joined_by(op: BinOp) -> Option<How>
+    ensures { result ≡ joins.joined_by op }
 {
-    let Some(how) = comparison_of(op) else {
-        return added(alloc, line, op, left, right);
-    };
-    let (left, right) = box_both(alloc, left, right)?;
-    Ok(Expr::Test(how, line, left, right))
+    match comparison_of(op) {
+        Some(how) => Some(How::Test(how)),
+        None => added_by(op),
+    }
 }
 
 /// An expression: a sum or a comparison of names and constants.
-#[tactic(auto, using(c_syntax::proofs::Equations::expr_laws, core_prog::proofs::Equations::view_laws))]
+// Goes down the operands on the left by a loop.
+#[tactic(auto, using(c_syntax::proofs::Equations::expr_laws, core_prog::proofs::Equations::view_laws, crate::proofs::Joining::joined_none))]
 pub fn expr_of(alloc: Global, expr: &c_syntax::Expr) -> Result<Expr, Unmade>
     ensures { Makes view_expr result (spec.expr_of (expr_tree expr.now)) }
 {
-    match &expr.node {
-        ExprNode::Number(token) => constant(token),
-        ExprNode::Name(name) => Ok(Expr::Name(name.copy(alloc)?, expr.line)),
-        ExprNode::Binary(op, left, right) => {
-            let left = expr_of(alloc, left.get())?;
-            let right = expr_of(alloc, right.get())?;
-            joined(alloc, expr.line, *op, left, right)
+    let mut joins = Vec::new(alloc);
+    let mut rest = expr;
+    loop {
+        match &rest.node {
+            ExprNode::Binary(op, left, right) => {
+                let Some(how) = joined_by(*op) else {
+                    return Err(Unmade::Unbuilt);
+                };
+                let line = rest.line;
+                let right = expr_of(alloc, right.get())?;
+                joins.push(Join { how, line, right })?;
+                rest = left.get();
+            }
+            ExprNode::Number(token) => {
+                let first = constant(token)?;
+                return Ok(join_all(alloc, joins, first)?);
+            }
+            ExprNode::Name(name) => {
+                let first = Expr::Name(name.copy(alloc)?, rest.line);
+                return Ok(join_all(alloc, joins, first)?);
+            }
+            ExprNode::Char(_)
+            | ExprNode::Unary(_, _)
+            | ExprNode::Cond(_, _, _)
+            | ExprNode::Assign(_, _, _)
+            | ExprNode::Step { .. }
+            | ExprNode::Call(_, _)
+            | ExprNode::Index(_, _)
+            | ExprNode::Field { .. }
+            | ExprNode::Cast(_, _)
+            | ExprNode::SizeOf(_) => return Err(Unmade::Unbuilt),
         }
-        ExprNode::Char(_) => Err(Unmade::Unbuilt),
-        ExprNode::Unary(_, _) => Err(Unmade::Unbuilt),
-        ExprNode::Cond(_, _, _) => Err(Unmade::Unbuilt),
-        ExprNode::Assign(_, _, _) => Err(Unmade::Unbuilt),
-        ExprNode::Step { up, prefix, of } => Err(Unmade::Unbuilt),
-        ExprNode::Call(_, _) => Err(Unmade::Unbuilt),
-        ExprNode::Index(_, _) => Err(Unmade::Unbuilt),
-        ExprNode::Field { of, name, arrow } => Err(Unmade::Unbuilt),
-        ExprNode::Cast(_, _) => Err(Unmade::Unbuilt),
-        ExprNode::SizeOf(_) => Err(Unmade::Unbuilt),
     }
 }
 
 /// A term: a sum of names, constants and `\result`.
-#[tactic(auto, using(c_syntax::proofs::Equations::term_laws, core_prog::proofs::Equations::view_laws))]
+// Goes down the operands on the left by a loop.
+#[tactic(auto, using(c_syntax::proofs::Equations::term_laws, core_prog::proofs::Equations::view_laws, crate::proofs::Joining::joined_none))]
 pub fn term_of(alloc: Global, term: &Term) -> Result<Expr, Unmade>
     ensures { Makes view_expr result (spec.term_of (term_tree term.now)) }
 {
-    match &term.node {
-        TermNode::Number(token) => constant(token),
-        TermNode::Name(name) => Ok(Expr::Name(name.copy(alloc)?, term.line)),
-        TermNode::Result => Ok(Expr::Name(Str::from_bytes(alloc, b"\\result")?, term.line)),
-        TermNode::Binary(op, left, right) => {
-            let left = term_of(alloc, left.get())?;
-            let right = term_of(alloc, right.get())?;
-            added(alloc, term.line, *op, left, right)
+    let mut joins = Vec::new(alloc);
+    let mut rest = term;
+    loop {
+        match &rest.node {
+            TermNode::Binary(op, left, right) => {
+                let Some(how) = added_by(*op) else {
+                    return Err(Unmade::Unbuilt);
+                };
+                let line = rest.line;
+                let right = term_of(alloc, right.get())?;
+                joins.push(Join { how, line, right })?;
+                rest = left.get();
+            }
+            TermNode::Number(token) => {
+                let first = constant(token)?;
+                return Ok(join_all(alloc, joins, first)?);
+            }
+            TermNode::Name(name) => {
+                let first = Expr::Name(name.copy(alloc)?, rest.line);
+                return Ok(join_all(alloc, joins, first)?);
+            }
+            TermNode::Result => {
+                let first = Expr::Name(Str::from_bytes(alloc, b"\\result")?, rest.line);
+                return Ok(join_all(alloc, joins, first)?);
+            }
+            TermNode::Char(_)
+            | TermNode::Unary(_, _)
+            | TermNode::Cond(_, _, _)
+            | TermNode::Call(_, _)
+            | TermNode::Index(_, _)
+            | TermNode::Field { .. }
+            | TermNode::Cast(_, _)
+            | TermNode::Old(_)
+            | TermNode::At(_, _)
+            | TermNode::Null
+            | TermNode::Range(_, _) => return Err(Unmade::Unbuilt),
         }
-        TermNode::Char(_) => Err(Unmade::Unbuilt),
-        TermNode::Unary(_, _) => Err(Unmade::Unbuilt),
-        TermNode::Cond(_, _, _) => Err(Unmade::Unbuilt),
-        TermNode::Call(_, _) => Err(Unmade::Unbuilt),
-        TermNode::Index(_, _) => Err(Unmade::Unbuilt),
-        TermNode::Field { of, name, arrow } => Err(Unmade::Unbuilt),
-        TermNode::Cast(_, _) => Err(Unmade::Unbuilt),
-        TermNode::Old(_) => Err(Unmade::Unbuilt),
-        TermNode::At(_, _) => Err(Unmade::Unbuilt),
-        TermNode::Null => Err(Unmade::Unbuilt),
-        TermNode::Range(_, _) => Err(Unmade::Unbuilt),
     }
 }

@@ -4,6 +4,7 @@
 mod clauses;
 mod exprs;
 mod functions;
+mod joins;
 mod preds;
 mod stmts;
 mod unmade;

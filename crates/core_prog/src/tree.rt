@@ -23,7 +23,6 @@ pub enum Comparison {
 /// An expression of C, or a term of an annotation. A name has its line, a sum and a comparison that of
 /// the operator. In an annotation the name `\result` stands for the returned value; no name of C begins
 /// with `\`.
-#[derive(Drop)]
 pub enum Expr {
     Number(i128),
     Name(Str, Line),
@@ -31,11 +30,44 @@ pub enum Expr {
     Test(Comparison, Line, Boxed<Expr>, Boxed<Expr>),
 }
 
+// Goes down the operands on the left by a loop, since these may be as many as there are tokens.
+impl Drop for Expr {
+    fn drop(mut self) {
+        loop {
+            match self {
+                Expr::Sum(_, _, left, right) | Expr::Test(_, _, left, right) => {
+                    drop(right);
+                    self = left.into_inner();
+                }
+                Expr::Name(name, _) => return drop(name),
+                Expr::Number(_) => return,
+            }
+        }
+    }
+}
+
 /// A predicate of an annotation.
-#[derive(Drop)]
 pub enum Pred {
     Compare(Comparison, Expr, Expr),
     And(Boxed<Pred>, Boxed<Pred>),
+}
+
+// Goes down the operands on the left by a loop, since these may be as many as there are tokens.
+impl Drop for Pred {
+    fn drop(mut self) {
+        loop {
+            match self {
+                Pred::And(left, right) => {
+                    drop(right);
+                    self = left.into_inner();
+                }
+                Pred::Compare(_, left, right) => {
+                    drop(left);
+                    return drop(right);
+                }
+            }
+        }
+    }
 }
 
 /// A statement (C11 6.8). A local is declared without a value or defined with one, directly in a block;

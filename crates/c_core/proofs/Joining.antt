@@ -44,15 +44,6 @@ both_none (Some a) = refl
 
 -- ---- one operator more
 
-neither : {X Y Z : Type 0} (f : X → Y → Option Z) (a : Option X) → both f a None ≡ None
-neither f None = refl
-neither f (Some x) = refl
-
-never : {X Y Z : Type 0} (f : X → Y → Option Z) (a : Option X) (b : Option Y) → ((x : X) (y : Y) → f x y ≡ None) → both f a b ≡ None
-never f None b h = refl
-never f (Some x) None h = refl
-never f (Some x) (Some y) h = h x y
-
 -- a joining that depends on the left operand alone
 one_more : (js more : List Join) (j : Join) (f : t.Expr → t.Expr → Option t.Expr) (a b : Option t.Expr) → more ≡ js ++ j ∷ [] → b ≡ Some (view_expr j.right)
     → ((x : t.Expr) → f x (view_expr j.right) ≡ Some (join_on j x)) → option_map (joined_all more) a ≡ option_map (joined_all js) (both f a b)
@@ -75,20 +66,6 @@ joined_is op how line a b h = by_test (comparison_of op) h
     by_test None h = added_is op how line a b h
     by_test (Some s) h = let e : Test s ≡ how = cc in ap (λ how. Some (built how line a b)) e
 
-added_not : (op : BinOp) (line : ℕ) (a b : t.Expr) → added_by op ≡ None → added line (sum_of op) a b ≡ None
-added_not op line a b h = by_sum (sum_of op) h
-  where
-    by_sum : (o : Option SumOp) → option_map Sum o ≡ None → added line o a b ≡ None
-    by_sum None h = refl
-    by_sum (Some s) h = absurd cc
-
-joined_not : (op : BinOp) (line : ℕ) (a b : t.Expr) → joined_by op ≡ None → joined line op a b ≡ None
-joined_not op line a b h = by_test (comparison_of op) h
-  where
-    by_test : (o : Option Comparison) → or_else (option_map Test o) (added_by op) ≡ None → or_else (tested line o a b) (added line (sum_of op) a b) ≡ None
-    by_test None h = added_not op line a b h
-    by_test (Some s) h = absurd cc
-
 -- ---- expressions
 
 expr_is : (x left right : Expr) (op : BinOp) → x.node ≡ enode.Binary op left right → expr_of (expr_tree x) ≡ both (joined x.line op) (expr_of (expr_tree left)) (expr_of (expr_tree right))
@@ -103,17 +80,6 @@ expr_turn js more j x left right op whole is grown how line made sofar =
     one_more js more j (joined x.line op) (expr_of (expr_tree left)) (expr_of (expr_tree right)) grown made joins
     ∙ ap (option_map (joined_all js)) (sym (expr_is x left right op is)) ∙ sofar
 
--- where there is no tree of an operand, there is none of the whole
-pub expr_right_not : (js : List Join) (x left right : Expr) (op : BinOp) (whole : Option t.Expr) → x.node ≡ enode.Binary op left right → expr_of (expr_tree right) ≡ None
-    → option_map (joined_all js) (expr_of (expr_tree x)) ≡ whole → whole ≡ None
-expr_right_not js x left right op whole is none sofar =
-    sym sofar ∙ ap (option_map (joined_all js)) (expr_is x left right op is ∙ ap (both (joined x.line op) (expr_of (expr_tree left))) none ∙ neither (joined x.line op) (expr_of (expr_tree left)))
-
-pub expr_how_not : (js : List Join) (x left right : Expr) (op : BinOp) (whole : Option t.Expr) → x.node ≡ enode.Binary op left right → joined_by op ≡ None
-    → option_map (joined_all js) (expr_of (expr_tree x)) ≡ whole → whole ≡ None
-expr_how_not js x left right op whole is none sofar =
-    sym sofar ∙ ap (option_map (joined_all js)) (expr_is x left right op is ∙ never (joined x.line op) (expr_of (expr_tree left)) (expr_of (expr_tree right)) (λ a b. joined_not op x.line a b none))
-
 -- ---- terms
 
 term_is : (x left right : Term) (op : BinOp) → x.node ≡ tnode.Binary op left right → term_of (term_tree x) ≡ both (added x.line (sum_of op)) (term_of (term_tree left)) (term_of (term_tree right))
@@ -127,16 +93,6 @@ term_turn js more j x left right op whole is grown how line made sofar =
     λ a. added_is op j.how x.line a (view_expr j.right) how ∙ ap (λ line. Some (built j.how line a (view_expr j.right))) (sym line) in
     one_more js more j (added x.line (sum_of op)) (term_of (term_tree left)) (term_of (term_tree right)) grown made joins
     ∙ ap (option_map (joined_all js)) (sym (term_is x left right op is)) ∙ sofar
-
-pub term_right_not : (js : List Join) (x left right : Term) (op : BinOp) (whole : Option t.Expr) → x.node ≡ tnode.Binary op left right → term_of (term_tree right) ≡ None
-    → option_map (joined_all js) (term_of (term_tree x)) ≡ whole → whole ≡ None
-term_right_not js x left right op whole is none sofar =
-    sym sofar ∙ ap (option_map (joined_all js)) (term_is x left right op is ∙ ap (both (added x.line (sum_of op)) (term_of (term_tree left))) none ∙ neither (added x.line (sum_of op)) (term_of (term_tree left)))
-
-pub term_how_not : (js : List Join) (x left right : Term) (op : BinOp) (whole : Option t.Expr) → x.node ≡ tnode.Binary op left right → added_by op ≡ None
-    → option_map (joined_all js) (term_of (term_tree x)) ≡ whole → whole ≡ None
-term_how_not js x left right op whole is none sofar =
-    sym sofar ∙ ap (option_map (joined_all js)) (term_is x left right op is ∙ never (added x.line (sum_of op)) (term_of (term_tree left)) (term_of (term_tree right)) (λ a b. added_not op x.line a b none))
 
 -- ---- predicates
 
@@ -154,23 +110,3 @@ pub pred_turn : (ps more : List Pred) (p : Pred) (x left right : Spelled) (whole
 pred_turn ps more p x left right whole is grown made sofar =
     one_both ps more p (pred_of (pred_tree left)) (comparison_in (pred_tree right)) grown made
     ∙ ap (option_map (both_all ps)) (sym (pred_is x left right is)) ∙ sofar
-
-pub pred_right_not : (ps : List Pred) (x left right : Spelled) (whole : Option t.Pred) → x.node ≡ pnode.And left right → comparison_in (pred_tree right) ≡ None
-    → option_map (both_all ps) (pred_of (pred_tree x)) ≡ whole → whole ≡ None
-pred_right_not ps x left right whole is none sofar =
-    sym sofar ∙ ap (option_map (both_all ps)) (pred_is x left right is ∙ ap (both (λ a b. Some (t.both a b)) (pred_of (pred_tree left))) none ∙ neither (λ a b. Some (t.both a b)) (pred_of (pred_tree left)))
-
--- ---- where the way down ends
-
--- with the tree of the innermost operand, the whole is known
-pub joined_made : (js : List Join) (given whole : Option t.Expr) (a : t.Expr) → option_map (joined_all js) given ≡ whole → given ≡ Some a → whole ≡ Some (joined_all js a)
-joined_made js given whole a sofar is = sym sofar ∙ ap (option_map (joined_all js)) is
-
-pub joined_not_made : (js : List Join) (given whole : Option t.Expr) → option_map (joined_all js) given ≡ whole → given ≡ None → whole ≡ None
-joined_not_made js given whole sofar is = sym sofar ∙ ap (option_map (joined_all js)) is
-
-pub both_made : (ps : List Pred) (given whole : Option t.Pred) (a : t.Pred) → option_map (both_all ps) given ≡ whole → given ≡ Some a → whole ≡ Some (both_all ps a)
-both_made ps given whole a sofar is = sym sofar ∙ ap (option_map (both_all ps)) is
-
-pub both_not_made : (ps : List Pred) (given whole : Option t.Pred) → option_map (both_all ps) given ≡ whole → given ≡ None → whole ≡ None
-both_not_made ps given whole sofar is = sym sofar ∙ ap (option_map (both_all ps)) is

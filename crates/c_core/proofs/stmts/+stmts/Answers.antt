@@ -1,11 +1,10 @@
-use Rattle.std.proofs.Common.{◌≡◌, [], ◌∷◌, Some, Err, map, option_map, refl, sym, ap, ◌∙◌, subst, arith}
+use Rattle.std.proofs.Common.{◌≡◌, [], ◌∷◌, Some, map, option_map, sym, ap, ◌∙◌, arith}
 use Rattle.std.proofs.lemmas.List.{map-append}
 use Rattle.std.proofs.lemmas.Result.{err_from_is_err_and}
 use Rattle.core_prog.specs.View.{view_expr, view_stmt}
 use Rattle.c_syntax.specs.Stmt as s
 use Rattle.c_syntax.specs.View.{view_expr as expr_tree, view_stmt as stmt_tree}
-use Rattle.c_core.specs.Core.{expr_of, stmt_of, stmts_of, no_else}
-use Rattle.c_core.specs.Made.{Makes}
+use Rattle.c_core.specs.Core.{expr_of, stmt_of, stmts_of}
 use Rattle.c_core.proofs.Making.{else_of, if_whole, if_fault, if_made, stmts_turn, stmts_done}
 use Rattle.c_core.proofs.stmts.+stmts.Goals as goal
 use Rattle.c_core.proofs.stmts.+stmts.Goals.{stmt_of-in-Some+in_ok-second-in-Some, stmt_of-in-None}

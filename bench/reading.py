@@ -1,9 +1,10 @@
 #!/usr/bin/env python3
-"""Measures the lexer on texts of a megabyte, or the lexer and the parser on texts of up to 200,000 tokens, and prints
-time and memory of each.
+"""Measures the lexer on texts of a megabyte, or the way from bytes to a program on texts of up to 200,000 tokens, and
+prints time and memory of each.
 
-Builds a small program around c_lexer, or around c_lexer and c_parser, in a folder of its own (proved first, as any),
-makes the texts, and runs the program on each. Run by hand: bench/reading.py tokens, or bench/reading.py trees
+Builds a small program around c_lexer, or around c_front, in a folder of its own, makes the texts, and runs the program
+on each, with 8 MB of stack. Run by hand: bench/reading.py tokens, or bench/reading.py trees. The program is proved
+first, as any; with a third word, `unproved`, it is built at once and checks what a proof would rule out.
 """
 import os
 import subprocess
@@ -15,7 +16,7 @@ TOP = os.path.dirname(os.path.dirname(os.path.abspath(__file__)))
 LIMIT = 1048576
 MEMORY = [4, 8, 12, 16, 24, 32, 48, 64, 96, 128, 192, 256]
 LEXER = ["wp_base", "wp_io", "c_syntax", "c_lexer"]
-PARSER = ["c_grammar", "c_types", "c_exprs", "c_decls", "acsl_terms", "acsl_preds", "acsl_clauses", "acsl_parser", "c_stmt_parts", "c_stmts", "c_file", "c_parser"]
+PARSER = ["c_grammar", "c_types", "c_exprs", "c_decls", "acsl_terms", "acsl_preds", "acsl_clauses", "acsl_parser", "c_stmt_parts", "c_stmts", "c_file", "c_parser", "core_prog", "core_names", "c_core", "c_front"]
 
 MAIN = r"""//! Reads a file, and tells by its status whether it is read whole.
 #![tactic(auto)]
@@ -71,8 +72,7 @@ READ_TOKENS = """fn read(alloc: Global, text: &[u8]) -> Result<(), Stop>
 READ_TREES = """fn read(alloc: Global, text: &[u8]) -> Result<(), Stop>
     requires { length text.now ≤ 1048576 }
 {
-    let tokens = lex(alloc, text)?;
-    let _program = parse(alloc, &tokens)?;
+    let _program = read_program(alloc, text)?;
     Ok(())
 }
 """
@@ -107,7 +107,12 @@ def function(body):
     return b"int f(int a) {" + body + b"}"
 
 
-# At most 200,000 tokens each. A tree is as deep as its longest chain of operators, and is dropped level by level.
+def contract(clause):
+    return b"/*@ ensures " + clause + b"; */ " + function(b"return a;")
+
+
+# At most 200,000 tokens each. No text has more than 200 forms open at a place; chains of what isn't counted as a form are
+# read, walked and dropped by loops.
 TREES = {
     "nothing": b"",
     "400 functions of 80 statements": b"\n".join(function(b"a = a + a; " * 80) for _ in range(400)),
@@ -117,10 +122,19 @@ TREES = {
     "100,000 statements": function(b";" * 100000),
     "1,000 globals": b"int x = 1, y[2];\n" * 1000,
     "no declaration at the end": b"int x = 1;\n" * 30000 + b"int",
-    "a sum of 5,000": function(b"return a" + b" + a" * 5000 + b";"),
     "a sum of 90,000": function(b"return a" + b" + a" * 90000 + b";"),
-    "a chain of 5,000 assignments": function(b"a = " * 5000 + b"a;"),
-    "5,000 stars": b"int " + b"*" * 5000 + b"p;",
+    "a product of 90,000": function(b"return a" + b" * a" * 90000 + b";"),
+    "90,000 comparisons": function(b"return a" + b" < a" * 90000 + b";"),
+    "90,000 assignments": function(b"a = " * 90000 + b"a;"),
+    "60,000 indices": function(b"return a" + b"[0]" * 60000 + b";"),
+    "190,000 stars": b"int " + b"*" * 190000 + b"p;",
+    "a sum of 90,000 in a clause": contract(b"a < a" + b" + a" * 90000),
+    "45,000 comparisons joined": contract(b"a < a" + b" && a < a" * 45000),
+    "45,000 equivalences": contract(b"a < a" + b" <==> a < a" * 45000),
+    "45,000 quantifiers": contract(b"\\forall integer i; " * 45000 + b"a < a"),
+    "20,000 quantifiers joined": contract(b"a < a && \\exists integer i; " * 20000 + b"a < a"),
+    "35,000 \\let": contract(b"\\let i = a; " * 35000 + b"a < a"),
+    "95,000 stars of two binders": contract(b"\\forall int " + b"*" * 95000 + b"p, q; a < a"),
     "a contract of 9,000 clauses": b"/*@ " + b"requires a < 1 && a > 0; " * 9000 + b"*/ " + function(b"return a;"),
 }
 
@@ -129,10 +143,10 @@ def sources(trees):
     """The crates of the program, those that it names, and its text."""
     if not trees:
         return LEXER, "wp_base wp_io c_lexer", MAIN.replace("USES", "use c_lexer::lex;") + READ_TOKENS
-    return LEXER + PARSER, "wp_base wp_io c_syntax c_lexer c_parser", MAIN.replace("USES", "use c_lexer::lex;\nuse c_parser::parse;") + READ_TREES
+    return LEXER + PARSER, "wp_base wp_io core_prog c_front", MAIN.replace("USES", "use c_front::read_program;") + READ_TREES
 
 
-def build(room, trees):
+def build(room, trees, proved):
     crates, named, main = sources(trees)
     os.makedirs(f"{room}/crates/read_file/src")
     os.mkdir(f"{room}/.git")
@@ -144,7 +158,7 @@ def build(room, trees):
     with open(f"{room}/crates/read_file/src/main.rt", "w") as out:
         out.write(main)
     # Building ends in a run; one without a file only ends with its status.
-    log = subprocess.run(["rt", "run"], cwd=f"{room}/crates/read_file", capture_output=True, text=True)
+    log = subprocess.run(["rt", "run" if proved else "try"], cwd=f"{room}/crates/read_file", capture_output=True, text=True)
     program = f"{room}/crates/read_file/out/read_file"
     if not os.path.exists(program):
         sys.exit(log.stdout + log.stderr)
@@ -153,8 +167,8 @@ def build(room, trees):
 
 def run(program, path, megabytes=None):
     """The seconds that the program takes on a file, and its status; with at most so much memory, where it is said. The
-    stack isn't limited, as ./wp asks."""
-    limits = "ulimit -s unlimited 2>/dev/null; " + (f"ulimit -v {megabytes * 1024}; " if megabytes else "")
+    stack has 8 MB."""
+    limits = "ulimit -s 8192; " + (f"ulimit -v {megabytes * 1024}; " if megabytes else "")
     words = ["sh", "-c", limits + 'exec "$1" "$2"', "sh", program, path]
     start = time.monotonic()
     status = subprocess.run(words, capture_output=True).returncode
@@ -162,11 +176,11 @@ def run(program, path, megabytes=None):
 
 
 def main():
-    if sys.argv[1:] not in (["tokens"], ["trees"]):
-        sys.exit("usage: bench/reading.py tokens | trees")
+    if sys.argv[1:2] not in (["tokens"], ["trees"]) or sys.argv[2:] not in ([], ["unproved"]):
+        sys.exit("usage: bench/reading.py tokens | trees [unproved]")
     trees = sys.argv[1] == "trees"
     with tempfile.TemporaryDirectory() as room:
-        program = build(room, trees)
+        program = build(room, trees, not sys.argv[2:])
         print(f"{'text':34}{'bytes':>9}{'seconds':>10}{'MB':>6}  status")
         for name, text in (TREES if trees else TOKENS).items():
             path = f"{room}/text.c"

@@ -1,11 +1,10 @@
 -- What is spelled before what ends the annotation is read, from the tokens on which it stands.
-use Rattle.std.proofs.Common.{◌≡◌, ℕ, ◌+◌, ◌-◌, ◌≤◌, List, [], ◌∷◌, ◌++◌, length, Option, Some, None, refl, sym, ap, ◌∙◌, subst, arith}
+use Rattle.std.proofs.Common.{◌≡◌, ℕ, ◌+◌, ◌-◌, ◌≤◌, List, ◌∷◌, ◌++◌, length, Some, sym, ap, ◌∙◌, arith}
 use Rattle.c_syntax.specs.declared.token.Token.{Token}
 use Rattle.c_syntax.specs.Pred as r
 use Rattle.c_syntax.specs.Decl as d
 use Rattle.c_syntax.specs.Contract.{Contract, LoopAnnot}
 use Rattle.c_grammar.specs.Tokens.{Names, annot_close}
-use Rattle.c_grammar.specs.Lists.{Repeated}
 use Rattle.c_grammar.specs.Annots.{SpellsContract, SpellsLoop, SpellsLogic}
 use Rattle.acsl_parser.specs.Read.{loop_at, assert_at, contract_at, logic_at, logics_at}
 use Rattle.acsl_parser.specs.Spelled.{IsClosed, SpellsAssertOn, SpellsLogics}

@@ -1,5 +1,5 @@
 -- The readers of clauses read whatever is spelled.
-use Rattle.std.proofs.Common.{◌≡◌, ℕ, ◌+◌, ◌-◌, ◌≤◌, Bool, true, false, cond, List, [], ◌∷◌, ◌++◌, length, codes, Option, Some, None, refl, sym, ap, ◌∙◌, subst, arith, append_assoc, length-append}
+use Rattle.std.proofs.Common.{◌≡◌, ℕ, ◌+◌, ◌-◌, Bool, true, false, List, [], ◌∷◌, ◌++◌, length, codes, Some, None, refl, sym, ap, ◌∙◌, subst, arith, append_assoc}
 use Rattle.c_syntax.specs.declared.token.Token.{Token}
 use Rattle.c_syntax.specs.declared.token.Punct.TheVariants as p
 use Rattle.c_syntax.specs.declared.token.Word.TheVariants as w
@@ -23,7 +23,7 @@ use Rattle.acsl_parser.specs.declared.words.ClauseWord.{ClauseWord}
 use Rattle.acsl_parser.specs.declared.words.ClauseWord.TheVariants as cw
 use Rattle.acsl_parser.specs.declared.words.LoopWord.{LoopWord}
 use Rattle.acsl_parser.specs.declared.words.LoopWord.TheVariants as lw
-use Rattle.acsl_parser.specs.Lists.{separated_at, worded, is_some}
+use Rattle.acsl_parser.specs.Lists.{is_some}
 use Rattle.acsl_clauses.specs.Sorts.{Sorted, sorted_of, is_in}
 use Rattle.acsl_parser.specs.Read as s
 use Rattle.acsl_parser.proofs.Separating.{separated_complete}

@@ -1,5 +1,5 @@
 -- The readers of contracts, loops, assertions and definitions read whatever is spelled.
-use Rattle.std.proofs.Common.{◌≡◌, ℕ, suc, ◌+◌, ◌-◌, ◌≤◌, Bool, true, false, cond, List, [], ◌∷◌, ◌++◌, length, codes, Option, Some, None, refl, sym, ap, ◌∙◌, subst, arith, append_assoc, length-append}
+use Rattle.std.proofs.Common.{◌≡◌, ℕ, suc, ◌+◌, ◌-◌, true, false, List, [], ◌∷◌, ◌++◌, length, codes, Option, Some, None, refl, sym, ap, ◌∙◌, subst, arith, append_assoc, length-append}
 use Rattle.c_syntax.specs.declared.token.Token.{Token}
 use Rattle.c_syntax.specs.declared.token.Punct.TheVariants as p
 use Rattle.c_syntax.specs.Expr as e
@@ -7,27 +7,26 @@ use Rattle.c_syntax.specs.Term as t
 use Rattle.c_syntax.specs.Pred as r
 use Rattle.c_syntax.specs.Decl as d
 use Rattle.c_syntax.specs.Contract.{Behavior, Contract, LoopAnnot}
-use Rattle.c_grammar.specs.Tokens.{Names, is_type, punct, name, most_open, annot_close}
-use Rattle.c_grammar.specs.Lists.{Separated, Repeated}
+use Rattle.c_grammar.specs.Tokens.{Names, is_type, punct, name, most_open}
+use Rattle.c_grammar.specs.Lists.{Repeated}
 use Rattle.c_grammar.specs.Preds.{SpellsTyped, declared}
 use Rattle.c_grammar.specs.Annots as g
-use Rattle.c_grammar.specs.Reading.{Reader, ◌>>=◌, punct_at, keyword_at}
+use Rattle.c_grammar.specs.Reading.{◌>>=◌, punct_at, keyword_at}
 use Rattle.acsl_preds.specs.Read.{typed_at}
 use Rattle.acsl_clauses.specs.declared.items.Part.TheVariants as part
 use Rattle.acsl_parser.specs.declared.words.EndWord.{EndWord}
 use Rattle.acsl_parser.specs.declared.words.EndWord.TheVariants as ew
 use Rattle.acsl_parser.specs.declared.words.LogicWord.{LogicWord}
 use Rattle.acsl_parser.specs.declared.words.LogicWord.TheVariants as gw
-use Rattle.acsl_parser.specs.Lists.{separated_at, worded, is_some, repeat}
-use Rattle.acsl_clauses.specs.Sorts.{Sorted, sorted_of, is_in, behavior_of, loop_made, contract_made}
+use Rattle.acsl_parser.specs.Lists.{separated_at, worded, is_some}
+use Rattle.acsl_clauses.specs.Sorts.{Sorted, sorted_of, behavior_of, loop_made, contract_made}
 use Rattle.acsl_parser.specs.Read as s
 use Rattle.acsl_parser.proofs.Separating.{separated_complete}
 use Rattle.acsl_parser.proofs.Repeating.{RepeatedAt, none, more, Repeats, goes_on, repeat_complete, repeat_starts}
 use Rattle.acsl_parser.proofs.Keywords.{keyword_is, end_text, end_found, end_worded, logic_text, logic_found}
 use Rattle.acsl_parser.proofs.Parts.{Below}
-use Rattle.acsl_parser.proofs.Sound.{SpellsPart}
-use Rattle.acsl_parser.proofs.SoundParts.{SpellsAsserted, LogicAt}
-use Rattle.acsl_parser.proofs.Complete.{bound, ended_reads, pred_reads, term_reads, separated_begin, part_complete}
+use Rattle.acsl_parser.proofs.SoundParts.{LogicAt}
+use Rattle.acsl_parser.proofs.Complete.{ended_reads, pred_reads, term_reads, separated_begin, part_complete}
 
 -- ---- behaviors
 

@@ -1,13 +1,11 @@
 -- What ends an annotation ends each part of it, and how the parts begin.
-use Rattle.std.proofs.Common.{◌≡◌, ℕ, Bool, true, false, ◌&&◌, List, [], ◌∷◌, ◌++◌, codes, Option, Some, None, refl, sym, ap, ◌∙◌, subst, append_assoc}
+use Rattle.std.proofs.Common.{◌≡◌, ℕ, Bool, true, false, ◌&&◌, List, ◌∷◌, ◌++◌, codes, None, refl, ap, ◌∙◌}
 use Rattle.std.specs.List.{list_all}
 use Rattle.c_syntax.specs.declared.token.Token.{Token}
 use Rattle.c_syntax.specs.Decl as d
-use Rattle.c_syntax.specs.Contract.{LoopAnnot}
 use Rattle.c_grammar.specs.Tokens.{Names, name, annot_close}
 use Rattle.c_grammar.specs.Annots as g
 use Rattle.c_grammar.specs.Reading.{keyword_at}
-use Rattle.acsl_clauses.specs.Sorts.{is_in}
 use Rattle.acsl_parser.specs.Read as s
 use Rattle.acsl_parser.proofs.CompleteParts.{NoPart}
 

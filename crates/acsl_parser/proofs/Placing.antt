@@ -1,9 +1,8 @@
 -- What was read at a place, over all tokens of a text.
-use Rattle.std.proofs.Common.{◌≡◌, ℕ, zero, suc, ◌+◌, ◌-◌, ◌≤◌, ◌<◌, Bool, true, false, not, ◌||◌, if◌then◌else◌, List, [], ◌∷◌, ◌++◌, length, take, drop, slice_get, IfSome, IfOk, Some, Result, Ok, Err, refl, sym, ap, ◌∙◌, arith, length-append}
+use Rattle.std.proofs.Common.{◌≡◌, ℕ, zero, suc, ◌+◌, ◌-◌, ◌≤◌, Bool, true, false, not, ◌||◌, if◌then◌else◌, List, [], ◌∷◌, ◌++◌, length, take, drop, slice_get, IfOk, Some, Result, Ok, Err, refl, sym, ap, ◌∙◌, arith, length-append}
 use Rattle.std.specs.Borrow.{Bor}
 use Rattle.wp_base.specs.declared.answers.Refusal.{Refusal}
 use Rattle.wp_base.specs.declared.answers.Rule.TheVariants as rule
-use Rattle.wp_base.specs.declared.answers.Stop.{Stop}
 use Rattle.wp_base.specs.declared.answers.Stop.TheVariants as stop
 use Rattle.c_syntax.specs.declared.token.Token.{Token}
 use Rattle.c_syntax.specs.declared.token.TokenKind.{TokenKind}

@@ -1,5 +1,5 @@
 -- A reader of the program that gives what a reader on lists gives keeps what that one keeps on the same tokens.
-use Rattle.std.proofs.Common.{◌≡◌, List, ◌++◌, Option, Some, None, Result, Ok, Err, refl, sym, ap, ◌∙◌}
+use Rattle.std.proofs.Common.{◌≡◌, List, ◌++◌, Some, Result, Ok, Err, sym}
 use Rattle.std.specs.Borrow.{Bor}
 use Rattle.c_syntax.specs.declared.token.Token.{Token}
 use Rattle.c_grammar.specs.declared.fault.Fault.{Fault}

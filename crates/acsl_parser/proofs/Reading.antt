@@ -1,5 +1,5 @@
 -- Equations of the readers of lists in the words of the code.
-use Rattle.std.proofs.Common.{◌≡◌, ℕ, zero, suc, ◌+◌, ◌-◌, ◌≤◌, Bool, true, false, List, [], ◌∷◌, ◌++◌, length, map, Option, Some, None, Result, Ok, Err, refl, sym, ap, ◌∙◌, arith, append_assoc, append-nil}
+use Rattle.std.proofs.Common.{◌≡◌, ℕ, zero, suc, ◌+◌, ◌-◌, Bool, true, false, List, [], ◌∷◌, ◌++◌, length, map, Option, Some, None, Err, refl, ap, ◌∙◌, arith, append_assoc, append-nil}
 use Rattle.std.proofs.lemmas.List.{map-append}
 use Rattle.c_syntax.specs.declared.token.Token.{Token}
 use Rattle.c_syntax.specs.declared.token.Punct.TheVariants as p
@@ -9,7 +9,7 @@ use Rattle.c_grammar.specs.Reading.{Reader, ◌>>=◌, punct_at}
 use Rattle.c_grammar.specs.Views.{Gives}
 use Rattle.c_grammar.specs.Tokens.{Names}
 use Rattle.acsl_parser.specs.Read as r
-use Rattle.acsl_parser.specs.Lists.{with_items, separated_go, more_separated, separated_at, repeat}
+use Rattle.acsl_parser.specs.Lists.{with_items, more_separated, repeat}
 
 with_one : {X : Type 0} (xs : List X) (x : X) (given : Option (List X × List Token)) → with_items (xs ++ x ∷ []) given ≡ with_items xs (given >>= λ ys. Some (x ∷ ys.0, ys.1))
 with_one xs x None = refl

@@ -1,5 +1,5 @@
 -- Items one after another, each with its place: what is read is spelled so, and what is spelled is read.
-use Rattle.std.proofs.Common.{◌≡◌, ℕ, zero, suc, ◌+◌, ◌-◌, ◌≤◌, Bool, true, false, List, [], ◌∷◌, ◌++◌, length, Option, Some, None, refl, sym, ap, ◌∙◌, subst, arith, append_assoc, length-append}
+use Rattle.std.proofs.Common.{◌≡◌, ℕ, zero, suc, ◌+◌, ◌-◌, ◌≤◌, Bool, true, false, List, [], ◌∷◌, ◌++◌, length, Some, refl, sym, ap, ◌∙◌, subst, arith, append_assoc, length-append}
 use Rattle.c_syntax.specs.declared.token.Token.{Token}
 use Rattle.c_grammar.specs.Reading.{Reader, ◌>>=◌}
 use Rattle.c_grammar.proofs.Readers.{Took, bind_ok, got, pair_is}

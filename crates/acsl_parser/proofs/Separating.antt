@@ -1,11 +1,11 @@
 -- Items between commas: what is read is spelled so, and what is spelled is read.
-use Rattle.std.proofs.Common.{◌≡◌, ℕ, zero, suc, ◌+◌, ◌≤◌, List, [], ◌∷◌, ◌++◌, length, Option, Some, None, refl, sym, ap, ◌∙◌, subst, arith, append_assoc, append-nil, length-append}
+use Rattle.std.proofs.Common.{◌≡◌, ℕ, zero, suc, ◌+◌, ◌≤◌, List, [], ◌∷◌, ◌++◌, length, Some, None, refl, sym, ap, ◌∙◌, subst, arith, append_assoc, append-nil, length-append}
 use Rattle.c_syntax.specs.declared.token.Token.{Token}
 use Rattle.c_syntax.specs.declared.token.Punct.TheVariants as p
 use Rattle.c_grammar.specs.Tokens.{punct}
 use Rattle.c_grammar.specs.Lists as g
 use Rattle.c_grammar.specs.Reading.{Reader, ◌>>=◌, punct_at}
-use Rattle.c_grammar.proofs.Readers.{Took, Sound, bind_ok, got, pair_is}
+use Rattle.c_grammar.proofs.Readers.{Sound, bind_ok, got, pair_is}
 use Rattle.c_types.proofs.Tokens.{punct_is}
 use Rattle.acsl_parser.specs.Lists.{separated_go, more_separated, separated_at}
 

@@ -1,17 +1,15 @@
 -- What the readers of clauses and of the parts of contracts read is spelled so.
-use Rattle.std.proofs.Common.{◌≡◌, ℕ, ◌+◌, ◌-◌, ◌≤◌, Bool, true, false, List, [], ◌∷◌, ◌++◌, length, codes, Option, Some, None, refl, sym, ap, ◌∙◌, subst, arith, append_assoc, length-append}
+use Rattle.std.proofs.Common.{◌≡◌, ℕ, ◌+◌, ◌-◌, true, List, [], ◌∷◌, ◌++◌, length, codes, Some, None, refl, sym, ap, ◌∙◌, subst, append_assoc}
 use Rattle.c_syntax.specs.declared.token.Token.{Token}
-use Rattle.c_syntax.specs.declared.token.Punct.{Punct}
 use Rattle.c_syntax.specs.declared.token.Punct.TheVariants as p
 use Rattle.c_syntax.specs.declared.token.Word.TheVariants as w
 use Rattle.c_syntax.specs.Term as t
 use Rattle.c_syntax.specs.Pred as r
-use Rattle.c_syntax.specs.Contract.{AssignsClause, Behavior, Contract, LoopAnnot}
-use Rattle.c_grammar.specs.Tokens.{Names, punct, word, name, most_open}
-use Rattle.c_grammar.specs.Lists.{Separated}
+use Rattle.c_syntax.specs.Contract.{AssignsClause}
+use Rattle.c_grammar.specs.Tokens.{Names, punct, word, name}
 use Rattle.c_grammar.specs.Terms.{anywhere, SpellsTerm, SpellsEntry}
 use Rattle.c_grammar.specs.Annots as g
-use Rattle.c_grammar.specs.Reading.{Reader, ◌>>=◌, punct_at, word_at, keyword_at}
+use Rattle.c_grammar.specs.Reading.{Reader, ◌>>=◌, punct_at, word_at}
 use Rattle.c_grammar.proofs.Readers.{Took, Sound, bind_ok, guard_ok, got, pair_is}
 use Rattle.c_types.proofs.Tokens.{punct_is, word_is}
 use Rattle.acsl_terms.specs.Read.{term_at, entry_at}
@@ -22,7 +20,7 @@ use Rattle.acsl_parser.specs.declared.words.ClauseWord.{ClauseWord}
 use Rattle.acsl_parser.specs.declared.words.ClauseWord.TheVariants as cw
 use Rattle.acsl_parser.specs.declared.words.LoopWord.{LoopWord}
 use Rattle.acsl_parser.specs.declared.words.LoopWord.TheVariants as lw
-use Rattle.acsl_parser.specs.Lists.{separated_at, worded}
+use Rattle.acsl_parser.specs.Lists.{worded}
 use Rattle.acsl_clauses.specs.Sorts.{Sorted, sorted_of, is_in}
 use Rattle.acsl_parser.specs.Read as s
 use Rattle.acsl_parser.proofs.Separating.{separated_sound}

@@ -1,20 +1,19 @@
 -- What the readers of contracts, loops, assertions and definitions read is spelled so.
-use Rattle.std.proofs.Common.{◌≡◌, ℕ, suc, ◌+◌, ◌-◌, ◌≤◌, Bool, true, false, cond, List, [], ◌∷◌, ◌++◌, length, codes, Option, Some, None, refl, sym, ap, ◌∙◌, subst, arith, append_assoc, length-append}
+use Rattle.std.proofs.Common.{◌≡◌, ℕ, suc, ◌+◌, ◌-◌, ◌≤◌, Bool, true, false, cond, List, [], ◌∷◌, ◌++◌, length, codes, Some, None, refl, sym, ap, ◌∙◌, subst, arith, append_assoc, length-append}
 use Rattle.c_syntax.specs.declared.token.Token.{Token}
 use Rattle.c_syntax.specs.declared.token.Punct.TheVariants as p
-use Rattle.c_syntax.specs.declared.annot.Names.{Names as Behaviors}
 use Rattle.c_syntax.specs.Expr as e
 use Rattle.c_syntax.specs.Term as t
 use Rattle.c_syntax.specs.Pred as r
 use Rattle.c_syntax.specs.Decl as d
-use Rattle.c_syntax.specs.Contract.{Behavior, Contract, LoopAnnot}
+use Rattle.c_syntax.specs.Contract.{Behavior, Contract}
 use Rattle.c_grammar.specs.Tokens.{Names, is_type, punct, name, most_open}
 use Rattle.c_grammar.specs.Lists.{Separated, Repeated}
 use Rattle.c_grammar.specs.Terms.{anywhere, SpellsTerm}
-use Rattle.c_grammar.specs.Preds.{SpellsTyped, SpellsLogicType, declared}
+use Rattle.c_grammar.specs.Preds.{SpellsTyped}
 use Rattle.c_grammar.specs.Annots as g
 use Rattle.c_grammar.specs.Reading.{Reader, ◌>>=◌, punct_at, name_at, new_name_at, keyword_at}
-use Rattle.c_grammar.proofs.Readers.{Took, Sound, bind_ok, guard_ok, pair_is}
+use Rattle.c_grammar.proofs.Readers.{Took, Sound, bind_ok, pair_is}
 use Rattle.c_types.proofs.Tokens.{punct_is, name_is, new_name_is}
 use Rattle.acsl_terms.specs.Read.{term_at}
 use Rattle.acsl_terms.proofs.Laws.{term_sound}
@@ -25,7 +24,7 @@ use Rattle.acsl_parser.specs.declared.words.EndWord.TheVariants as ew
 use Rattle.acsl_parser.specs.declared.words.LogicWord.{LogicWord}
 use Rattle.acsl_parser.specs.declared.words.LogicWord.TheVariants as gw
 use Rattle.acsl_parser.specs.Lists.{separated_at, worded, repeat}
-use Rattle.acsl_clauses.specs.Sorts.{Sorted, sorted_of, is_in, behavior_of, loop_made, contract_made}
+use Rattle.acsl_clauses.specs.Sorts.{Sorted, behavior_of, loop_made, contract_made}
 use Rattle.acsl_parser.specs.Read as s
 use Rattle.acsl_parser.proofs.Separating.{separated_sound}
 use Rattle.acsl_parser.proofs.Repeating.{RepeatedAt, none, more, SoundAt, repeat_sound}

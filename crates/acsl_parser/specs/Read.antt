@@ -1,6 +1,6 @@
 -- Readers of contracts, annotations of loops, assertions and definitions (ACSL 2.3, 2.4, 2.5, 2.6), as functions on token lists.
 -- Each reads what stands inside an annotation, up to what ends it. `end` is the number of all tokens of the text, from which places are counted.
-use Rattle.std.specs.Prelude.{ℕ, ◌-◌, Bool, true, false, List, [], ◌∷◌, length, codes, Option, Some, None, if◌then◌else◌}
+use Rattle.std.specs.Prelude.{ℕ, ◌-◌, Bool, List, [], ◌∷◌, length, codes, Option, Some, None, if◌then◌else◌}
 use Rattle.std.specs.Str.{bytes_eq}
 use Rattle.c_syntax.specs.declared.token.Token.{Token}
 use Rattle.c_syntax.specs.declared.token.Punct.TheVariants as p

@@ -1,5 +1,5 @@
 // Behaviors (ACSL 2.3.3).
-ghost use Rattle.std.specs.Prelude.{◌≡◌, ◌-◌, length, map};
+ghost use Rattle.std.specs.Prelude.{◌≡◌, ◌-◌, map};
 ghost use Rattle.c_syntax.specs.View.{view_behavior};
 ghost use Rattle.c_grammar.specs.Views.{Gives};
 ghost use Rattle.acsl_parser.specs.Read as spec;

@@ -1,5 +1,5 @@
 // What stands behind the words of clauses (ACSL 2.3, 2.3.4, 2.5).
-ghost use Rattle.std.specs.Prelude.{◌≡◌, ◌≤◌, ◌-◌, length, map};
+ghost use Rattle.std.specs.Prelude.{◌≤◌, ◌-◌, length, map};
 ghost use Rattle.c_syntax.specs.View.{view_assigns, view_pred, view_term};
 ghost use Rattle.c_grammar.specs.Views.{Gives};
 ghost use Rattle.acsl_terms.specs.Read.{entry_at as entry_of};

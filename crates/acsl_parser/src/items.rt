@@ -1,6 +1,5 @@
 // Clauses one after another (ACSL 2.3, 2.4.2, 2.5).
-ghost use Rattle.std.specs.Prelude.{◌≡◌, ◌≤◌, ◌-◌, length, map};
-ghost use Rattle.c_syntax.specs.View.{view_clause};
+ghost use Rattle.std.specs.Prelude.{◌≡◌, ◌≤◌, ◌-◌, map};
 ghost use Rattle.c_grammar.specs.Views.{Gives};
 ghost use Rattle.acsl_parser.specs.Read as spec;
 ghost use Rattle.acsl_clauses.specs.Views.{view_item};
@@ -9,7 +8,7 @@ use crate::clauses::{assigns_at, pred_ended, term_ended};
 use crate::words::{ClauseWord, LoopWord, clause_word_at, loop_word_at, place_of, starts_item};
 use acsl_clauses::Item;
 use c_grammar::Fault;
-use c_syntax::{AssignsClause, Clause, Measure, Pred, Term, Token};
+use c_syntax::{Clause, Measure, Pred, Term, Token};
 use std::alloc::Global;
 use wp_base::{Line, List, Str};
 

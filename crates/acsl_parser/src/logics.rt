@@ -1,5 +1,5 @@
 // Definitions of predicates and logic functions (ACSL 2.6.1).
-ghost use Rattle.std.specs.Prelude.{◌≡◌, map, length, true};
+ghost use Rattle.std.specs.Prelude.{◌≡◌, map, length};
 ghost use Rattle.c_syntax.specs.View.{view_logic, view_var};
 ghost use Rattle.c_grammar.specs.Views.{Gives};
 ghost use Rattle.acsl_preds.specs.Read.{typed_at as typed_of};

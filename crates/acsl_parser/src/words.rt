@@ -1,5 +1,5 @@
 // The words that begin the parts of annotations (ACSL 2.3 to 2.6).
-ghost use Rattle.std.specs.Prelude.{◌≡◌, ◌-◌, length, codes};
+ghost use Rattle.std.specs.Prelude.{◌≡◌, ◌-◌, length};
 ghost use Rattle.c_grammar.specs.Views.{Finds};
 ghost use Rattle.acsl_parser.specs.Lists.{worded};
 ghost use Rattle.acsl_parser.specs.Read as spec;

@@ -10,15 +10,15 @@ use Rattle.c_syntax.specs.Decl as d
 use Rattle.c_grammar.specs.Tokens.{Names, is_type, punct, word, name, annot_open, annot_close, first_line, most_open}
 use Rattle.c_grammar.specs.Lists.{Separated, Repeated}
 use Rattle.c_grammar.specs.Types.{SpellsType, SpellsStars}
-use Rattle.c_grammar.specs.Annots.{contract_of, SpellsContract, SpellsLogic}
+use Rattle.c_grammar.specs.Annots.{contract_of, SpellsLogic}
 use Rattle.c_grammar.specs.Declarators.{SpellsDeclarator, SpellsInitialised, SpellsVariables}
 use Rattle.c_grammar.specs.Stmts.{SpellsBlock}
-use Rattle.c_grammar.specs.Decls.{most_within, params_of, param_lines, SpellsParams, SpellsFields, SpellsEnumerators, SpellsLinkage, SpellsContractAt, SpellsEnd, SpellsFunction, SpellsDecl, SpellsDecls, Lines}
-use Rattle.c_grammar.specs.Reading.{◌>>=◌, punct_at}
+use Rattle.c_grammar.specs.Decls.{most_within, SpellsParams, SpellsFields, SpellsEnumerators, SpellsLinkage, SpellsContractAt, SpellsEnd, SpellsFunction, SpellsDecl, SpellsDecls, Lines}
+use Rattle.c_grammar.specs.Reading.{punct_at}
 use Rattle.c_grammar.proofs.Readers.{got}
-use Rattle.c_types.specs.Read.{starts_type, ends_stars, type_at, stars_at}
+use Rattle.c_types.specs.Read.{ends_stars}
 use Rattle.c_types.proofs.Laws.{type_complete, stars_complete, type_starts}
-use Rattle.c_decls.specs.Read.{declarator_at, variables_after, params_at, fields_at, linkage_at}
+use Rattle.c_decls.specs.Read.{declarator_at, variables_after, params_at, fields_at}
 use Rattle.c_decls.proofs.Laws.{declarator_complete, variables_after_complete, params_complete, fields_complete, enumerators_complete, linkage_complete, close_is_next, brace_is_next}
 use Rattle.c_file.specs.declared.forms.Form.{Form}
 use Rattle.c_file.specs.declared.forms.Form.TheVariants as form

@@ -1,5 +1,5 @@
 -- What the first tokens of a declaration tell of it.
-use Rattle.std.proofs.Common.{◌≡◌, ℕ, suc, Bool, true, false, ◌||◌, if◌then◌else◌, List, [], ◌∷◌, ◌++◌, codes, Option, Some, None, refl, sym, ap, ◌∙◌, subst, append_assoc}
+use Rattle.std.proofs.Common.{◌≡◌, ℕ, Bool, true, false, ◌||◌, if◌then◌else◌, List, [], ◌∷◌, ◌++◌, codes, Some, None, refl, sym, ap, ◌∙◌, subst, append_assoc}
 use Rattle.std.specs.Str.{bytes_eq}
 use Rattle.wp_base.specs.declared.kinds.Kind.{Kind}
 use Rattle.c_syntax.specs.declared.token.Token.{Token}
@@ -11,13 +11,13 @@ use Rattle.c_syntax.specs.declared.token.Word.TheVariants as w
 use Rattle.c_syntax.specs.Expr as e
 use Rattle.c_syntax.specs.Contract.{Clause, Measure, AssignsClause, Behavior, Contract}
 use Rattle.c_syntax.specs.Decl as d
-use Rattle.c_grammar.specs.Tokens.{Names, is_type, punct, word, name, annot_open, annot_close}
+use Rattle.c_grammar.specs.Tokens.{Names, punct, word, name, annot_open, annot_close}
 use Rattle.c_grammar.specs.Lists.{Separated, Repeated}
 use Rattle.c_grammar.specs.Types.{is_kind_word, kind_of, kind_rows, SpellsWords, SpellsConsts, SpellsSpecifier, SpellsType, SpellsStars}
 use Rattle.c_grammar.specs.Declarators.{SpellsDeclarator, SpellsInitialised}
 use Rattle.c_grammar.specs.Annots.{Item, Ending, SpellsClause, SpellsAssigns, SpellsMeasure, SpellsItem, SpellsItems, SpellsBehavior, SpellsBehaviors, SpellsEnding, SpellsEndings, SpellsContract, SpellsLogic}
 use Rattle.c_grammar.specs.Decls.{SpellsLinkage}
-use Rattle.c_grammar.specs.Reading.{punct_at, word_at, keyword_at}
+use Rattle.c_grammar.specs.Reading.{punct_at}
 use Rattle.c_types.specs.Read as t
 use Rattle.c_file.specs.declared.forms.Form.TheVariants as form
 use Rattle.c_file.specs.Read as r

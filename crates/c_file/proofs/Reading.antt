@@ -1,10 +1,9 @@
 -- Equations of the readers in the words of the code.
-use Rattle.std.proofs.Common.{◌≡◌, ℕ, zero, suc, ◌+◌, Bool, true, false, List, [], ◌∷◌, ◌++◌, length, Option, Some, None, refl, sym, ap, ◌∙◌, subst, add-one, arith, append_assoc, append-nil}
+use Rattle.std.proofs.Common.{◌≡◌, ℕ, zero, suc, ◌+◌, true, false, List, [], ◌∷◌, ◌++◌, length, Some, None, refl, sym, ap, ◌∙◌, arith, append_assoc, append-nil}
 use Rattle.c_syntax.specs.declared.token.Token.{Token}
 use Rattle.c_syntax.specs.declared.token.Punct.TheVariants as p
 use Rattle.c_syntax.specs.Decl as d
 use Rattle.c_grammar.specs.Tokens.{Names}
-use Rattle.c_grammar.specs.Decls.{Lines}
 use Rattle.c_file.specs.Read as r
 use Rattle.c_file.specs.Read.{Found, Front}
 use Rattle.c_file.specs.Views.{and_then}

@@ -12,7 +12,7 @@ use Rattle.c_grammar.specs.Types.{SpellsType, SpellsStars}
 use Rattle.c_grammar.specs.Annots.{contract_of, SpellsContract}
 use Rattle.c_grammar.specs.Declarators.{SpellsVariables}
 use Rattle.c_grammar.specs.Decls.{most_within, SpellsParams, SpellsLinkage, SpellsContractAt, SpellsEnd, SpellsFunction, SpellsDecl, SpellsDecls, Lines}
-use Rattle.c_grammar.specs.Reading.{Reader, ◌>>=◌, punct_at, word_at, new_name_at}
+use Rattle.c_grammar.specs.Reading.{punct_at, word_at, new_name_at}
 use Rattle.c_grammar.proofs.Readers.{Took, Sound, bind_ok, got, pair_is}
 use Rattle.c_types.specs.Read.{type_at, stars_at}
 use Rattle.c_types.proofs.Laws.{type_sound, stars_sound}

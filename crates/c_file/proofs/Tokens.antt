@@ -1,5 +1,5 @@
 -- Single tokens: what a list begins with, where a reader took a token of it.
-use Rattle.std.proofs.Common.{◌≡◌, ℕ, suc, ◌≤◌, Bool, true, false, cond, List, [], ◌∷◌, length, Option, Some, None, refl, sym, ap, ◌∙◌, subst, arith}
+use Rattle.std.proofs.Common.{◌≡◌, ℕ, suc, ◌≤◌, Bool, true, false, cond, List, [], ◌∷◌, length, Some, None, refl, sym, ap, ◌∙◌, arith}
 use denote.Enum.Bare.{sameb, same_true}
 use Rattle.c_syntax.specs.declared.token.Token.{Token}
 use Rattle.c_syntax.specs.declared.token.TokenKind.{TokenKind}
@@ -10,8 +10,8 @@ use Rattle.c_syntax.specs.contracts.token.Punct.{the_type as punct_type}
 use Rattle.c_syntax.specs.contracts.token.Word.{the_type as word_type}
 use Rattle.c_grammar.specs.Tokens.{Names, is_type, token, punct, word, name, annot_open, annot_close}
 use Rattle.c_grammar.specs.Reading.{punct_at, punct_by, word_at, word_by, name_at, name_by, new_name_at, unless_type}
-use Rattle.c_grammar.proofs.Readers.{bind_ok, guard_ok, pair_is, got}
-use Rattle.c_file.specs.Read.{annot_open_at, annot_open_by, annot_close_at, annot_close_by, after_name}
+use Rattle.c_grammar.proofs.Readers.{bind_ok, guard_ok, pair_is}
+use Rattle.c_file.specs.Read.{annot_open_at, annot_open_by, annot_close_at, annot_close_by}
 
 punct_by_is : (q : Punct) (line : ℕ) (kind : TokenKind) (ts : List Token) (line' : ℕ) (after : List Token) → punct_by q line kind ts ≡ Some (line', after)
     → (kind ≡ k.Punct q) × (line ≡ line') × (ts ≡ after)

@@ -1,9 +1,9 @@
 -- What the program's values are to the readers on lists.
-use Rattle.std.specs.Prelude.{◌≡◌, ℕ, map, Option, Some, None, List, ◌++◌}
+use Rattle.std.specs.Prelude.{◌≡◌, map, Option, Some, None, List, ◌++◌}
 use Rattle.std.specs.Option.{option_map}
 use Rattle.std.specs.Borrow.{Bor}
 use Rattle.c_syntax.specs.declared.token.Token.{Token}
-use Rattle.c_syntax.specs.View.{view_ctype, view_var, view_stmt, view_decl}
+use Rattle.c_syntax.specs.View.{view_ctype, view_stmt, view_decl}
 use Rattle.c_grammar.specs.Decls as g
 use Rattle.c_decls.specs.Views.{view_param}
 use Rattle.c_file.specs.Read as r

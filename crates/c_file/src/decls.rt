@@ -5,7 +5,7 @@ ghost use Rattle.c_file.specs.Read as spec;
 ghost use Rattle.c_file.specs.Views.{view_found};
 ghost use Rattle.c_syntax.specs.Decl as d;
 ghost use Rattle.c_syntax.specs.View.{view_ctype, view_decl, view_logic};
-ghost use Rattle.std.specs.Prelude.{[], ◌∷◌, IfOk, map};
+ghost use Rattle.std.specs.Prelude.{IfOk, map};
 
 use crate::forms::{Form, annot_close_at, annot_open_at, first_line, form_of, opens_params};
 use crate::found::Found;
@@ -17,7 +17,7 @@ use c_grammar::{Fault, expect, new_name_at, punct_at, word_at};
 use c_syntax::{CType, Decl, EnumDecl, LogicDecl, Punct, StructDecl, Token, Word};
 use c_types::type_at;
 use std::alloc::Global;
-use wp_base::{Line, List, NoMemory, Str};
+use wp_base::{List, NoMemory, Str};
 
 // One declaration, and nothing beside it.
 fn alone(alloc: Global, decl: Decl) -> Result<Found, NoMemory>

@@ -5,7 +5,7 @@ ghost use Rattle.c_grammar.specs.Views.{Finds};
 ghost use Rattle.c_file.specs.Read as spec;
 ghost use Rattle.c_file.specs.Views.{Skips};
 
-use c_grammar::{Fault, keyword_at, punct_at, word_at};
+use c_grammar::{keyword_at, punct_at, word_at};
 use c_syntax::{Punct, Token, TokenKind, Word};
 use wp_base::Line;
 

@@ -1,5 +1,5 @@
 // Lists.
-ghost use Rattle.std.specs.Prelude.{◌≡◌, [], ◌∷◌, ◌++◌, IfOk, OnOk, map};
+ghost use Rattle.std.specs.Prelude.{◌≡◌, [], ◌∷◌, ◌++◌, IfOk, map};
 ghost use Rattle.c_decls.specs.Views.{view_param};
 ghost use Rattle.c_grammar.specs.Decls.{param_lines, params_of};
 ghost use Rattle.c_syntax.specs.View.{view_var};

@@ -1,8 +1,8 @@
 -- The first token past a limit, function by function, in the words of the code.
-use Rattle.std.proofs.Common.{◌≡◌, ℕ, zero, suc, ◌+◌, ◌≤◌, ◌<◌, Bool, true, false, List, [], ◌∷◌, length, map, Option, Some, None, refl, sym, ap, ◌∙◌, add-one, arith}
+use Rattle.std.proofs.Common.{◌≡◌, ℕ, suc, ◌+◌, ◌≤◌, ◌<◌, true, false, List, [], ◌∷◌, length, map, Option, Some, None, refl, sym, ap, ◌∙◌, add-one, arith}
 use Rattle.std.proofs.lemmas.Bool.Decides.{nat_tests}
 use Rattle.std.specs.Prelude.{nat_le, slice_get}
-use Rattle.c_grammar.specs.Decls.{past_limit, or_else, most_functions, most_params, most_stmts}
+use Rattle.c_grammar.specs.Decls.{past_limit, or_else, most_params, most_stmts}
 use Rattle.c_file.specs.declared.found.Lines.{Lines}
 use Rattle.c_parser.specs.Outcome.{line_within}
 use Rattle.c_file.specs.Views.{view_lines}

@@ -1,7 +1,7 @@
 // Parts of statements, and statements that have none in them.
-ghost use Rattle.std.specs.Prelude.{◌≡◌, ◌≤◌, length};
+ghost use Rattle.std.specs.Prelude.{◌≡◌, ◌≤◌};
 ghost use Rattle.c_grammar.specs.Tokens.{first_line as first_line_of};
-ghost use Rattle.c_grammar.specs.Views.{Finds, Gives};
+ghost use Rattle.c_grammar.specs.Views.{Gives};
 ghost use Rattle.c_syntax.specs.Stmt as tree;
 ghost use Rattle.c_syntax.specs.View.{view_expr, view_loop, view_stmt};
 ghost use Rattle.std.specs.Option.{option_map};

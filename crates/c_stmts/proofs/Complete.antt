@@ -1,5 +1,5 @@
 -- The reader on lists reads whatever the grammar spells: parts of statements, and statements that have none in them.
-use Rattle.std.proofs.Common.{◌≡◌, ℕ, zero, suc, ◌+◌, ◌-◌, ◌≤◌, Bool, true, false, cond, nat_le, List, [], ◌∷◌, ◌++◌, length, codes, Option, Some, None, refl, sym, ap, ◌∙◌, subst, arith, append_assoc, append-nil, length-append}
+use Rattle.std.proofs.Common.{◌≡◌, ℕ, ◌+◌, ◌-◌, ◌≤◌, Bool, true, false, cond, nat_le, List, [], ◌∷◌, ◌++◌, length, codes, Option, Some, None, refl, sym, ap, ◌∙◌, subst, arith, append_assoc, length-append}
 use Rattle.std.proofs.lemmas.Bool.Decides.{nat_tests}
 use Rattle.c_syntax.specs.declared.token.Token.{Token}
 use Rattle.c_syntax.specs.declared.token.TokenKind.{TokenKind}
@@ -14,12 +14,12 @@ use Rattle.c_syntax.specs.Contract.{LoopAnnot}
 use Rattle.c_grammar.specs.Tokens.{Names, token, punct, word, annot_open, annot_close, first_line}
 use Rattle.c_grammar.specs.Exprs.{SpellsExpr, SpellsCond}
 use Rattle.c_grammar.specs.Annots as annots
-use Rattle.c_grammar.specs.Annots.{SpellsLoop, SpellsAssert, loop_of}
+use Rattle.c_grammar.specs.Annots.{SpellsLoop, SpellsAssert}
 use Rattle.c_grammar.specs.Declarators as d
 use Rattle.c_grammar.specs.Declarators.{SpellsVariables}
 use Rattle.c_grammar.specs.Stmts as g
-use Rattle.c_grammar.specs.Stmts.{SpellsOptional, SpellsFirst, SpellsStmt, ends_short}
-use Rattle.c_grammar.specs.Reading.{Reader, ◌>>=◌, punct_at, word_at, keyword_at}
+use Rattle.c_grammar.specs.Stmts.{SpellsOptional, SpellsFirst, ends_short}
+use Rattle.c_grammar.specs.Reading.{◌>>=◌, punct_at, word_at, keyword_at}
 use Rattle.c_types.specs.Read.{starts_type}
 use Rattle.c_exprs.specs.Read.{expr_at, cond_at}
 use Rattle.c_decls.specs.Read.{variables_at}
@@ -29,10 +29,10 @@ use Rattle.c_stmt_parts.specs.declared.forms.Form.TheVariants as form
 use Rattle.c_stmt_parts.specs.Read as parts_of
 use Rattle.c_stmts.specs.Read as r
 use Rattle.c_stmt_parts.specs.Read.{form_of}
-use Rattle.c_stmts.specs.Read.{Starting, Inside}
+use Rattle.c_stmts.specs.Read.{Inside}
 use Rattle.c_stmts.proofs.Tokens.{first_line_front}
 use Rattle.c_stmts.proofs.Turns.{stmt_is}
-use Rattle.c_stmts.proofs.Starts.{may_begin, First, expr_first, begins_value, closes, punct_here, no_close, keyed, Begins, keyed_first, value_first, stmt_begun}
+use Rattle.c_stmts.proofs.Starts.{may_begin, First, expr_first, begins_value, closes, punct_here, no_close, keyed, Begins, keyed_first, value_first}
 
 -- what is spelled in statements is read
 pub record Whole (types : Names) : Type 0 where

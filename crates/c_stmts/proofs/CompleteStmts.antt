@@ -1,7 +1,6 @@
 -- The reader on lists reads whatever statements the grammar spells.
-use Rattle.std.proofs.Common.{◌≡◌, ℕ, zero, suc, ◌+◌, ◌-◌, ◌≤◌, Bool, true, false, cond, nat_le, ◌&&◌, List, [], ◌∷◌, ◌++◌, length, codes, Option, Some, None, refl, sym, ap, ◌∙◌, subst, arith, append_assoc, append-nil, length-append}
+use Rattle.std.proofs.Common.{◌≡◌, ℕ, zero, suc, ◌+◌, ◌-◌, ◌≤◌, Bool, true, false, nat_le, ◌&&◌, List, [], ◌∷◌, ◌++◌, length, Option, Some, None, refl, sym, ap, ◌∙◌, subst, arith, append_assoc, append-nil, length-append}
 use Rattle.c_syntax.specs.declared.token.Token.{Token}
-use Rattle.c_syntax.specs.declared.token.TokenKind.{TokenKind}
 use Rattle.c_syntax.specs.declared.token.TokenKind.TheVariants as k
 use Rattle.c_syntax.specs.declared.token.Punct.TheVariants as p
 use Rattle.c_syntax.specs.declared.token.Word.{Word}
@@ -9,24 +8,22 @@ use Rattle.c_syntax.specs.declared.token.Word.TheVariants as w
 use Rattle.c_syntax.specs.Expr as ex
 use Rattle.c_syntax.specs.Stmt as tree
 use Rattle.c_syntax.specs.Contract.{LoopAnnot}
-use Rattle.c_grammar.specs.Tokens.{Names, token, punct, word, annot_open, annot_close, first_line}
+use Rattle.c_grammar.specs.Tokens.{Names, punct, word, annot_open, annot_close, first_line}
 use Rattle.c_grammar.specs.Exprs.{SpellsExpr, SpellsCond}
-use Rattle.c_grammar.specs.Annots.{SpellsLoop, loop_of}
+use Rattle.c_grammar.specs.Annots.{loop_of}
 use Rattle.c_grammar.specs.Declarators.{SpellsVariables}
 use Rattle.c_grammar.specs.Stmts as g
 use Rattle.c_grammar.specs.Stmts.{SpellsOptional, SpellsFirst, SpellsLoopAnnot, SpellsStmt, SpellsBody, SpellsBlock, SpellsStmts, SpellsCases, is_block, ends_short, begins_labelled, defaults}
-use Rattle.c_grammar.specs.Reading.{Reader, ◌>>=◌, punct_at, word_at, keyword_at}
-use Rattle.c_types.specs.Read.{starts_type}
+use Rattle.c_grammar.specs.Reading.{◌>>=◌, punct_at, word_at}
 use Rattle.c_exprs.specs.Read.{cond_at}
-use Rattle.c_stmt_parts.specs.declared.forms.Form.{Form}
 use Rattle.c_stmt_parts.specs.declared.forms.Form.TheVariants as form
 use Rattle.c_stmt_parts.specs.Read as parts_of
 use Rattle.c_stmts.specs.Read as r
 use Rattle.c_stmt_parts.specs.Read.{form_of}
-use Rattle.c_stmts.specs.Read.{Starting, Inside, Body, most_inside}
+use Rattle.c_stmts.specs.Read.{Starting, Body, most_inside}
 use Rattle.c_stmts.proofs.Tokens.{first_line_front}
 use Rattle.c_stmts.proofs.Turns.{deep_by, deep_annotated, deep_is, stmts_go}
-use Rattle.c_stmts.proofs.Starts.{Goes, stmt_goes, stmt_some, stmt_begun, no_open}
+use Rattle.c_stmts.proofs.Starts.{stmt_goes, stmt_some, stmt_begun, no_open}
 use Rattle.c_stmts.proofs.Complete.{Whole, no_type, no_brace_at, no_else_at, variables_some, test_complete, locals_complete, head_complete, do_end_complete, loop_annot_complete, ReadsStmt, read_empty, read_break, read_continue, read_return, read_value, read_assert}
 
 -- ---- lists

@@ -1,5 +1,5 @@
 -- The reader of statements reads exactly what is spelled. The crates above cite these laws.
-use Rattle.std.proofs.Common.{◌≡◌, ℕ, ◌+◌, ◌-◌, ◌≤◌, Bool, true, false, List, [], ◌∷◌, ◌++◌, length, codes, Option, Some, None, Result, Ok, Err, refl, sym, ap, ◌∙◌, subst, arith, append_assoc, length-append}
+use Rattle.std.proofs.Common.{◌≡◌, ℕ, ◌+◌, ◌-◌, ◌≤◌, true, false, List, ◌∷◌, ◌++◌, length, Some, Result, Ok, Err, refl, sym, ap, ◌∙◌, arith}
 use Rattle.std.specs.Borrow.{Bor}
 use Rattle.c_syntax.specs.declared.token.Token.{Token}
 use Rattle.c_syntax.specs.declared.token.TokenKind.{TokenKind}
@@ -10,17 +10,14 @@ use Rattle.c_syntax.specs.declared.token.Punct.{Punct}
 use Rattle.c_syntax.specs.declared.token.Punct.TheVariants as p
 use Rattle.c_grammar.specs.declared.fault.Fault.{Fault}
 use Rattle.c_grammar.specs.declared.fault.Fault.TheVariants.{Syntax, NoMemory}
-use Rattle.c_grammar.specs.Tokens.{Names, token, punct, annot_close}
-use Rattle.c_grammar.specs.Annots.{SpellsLoop, SpellsAssert}
-use Rattle.c_grammar.specs.Reading.{keyword_at}
+use Rattle.c_grammar.specs.Tokens.{Names, token, punct}
 use Rattle.c_grammar.specs.Views.{Gives}
-use Rattle.c_grammar.proofs.Readers.{Took, Sound, pair_is}
-use Rattle.c_types.specs.Read.{starts_type, kind_starts, word_starts}
+use Rattle.c_grammar.proofs.Readers.{Took, pair_is}
+use Rattle.c_types.specs.Read.{starts_type, kind_starts}
 use Rattle.c_types.specs.Clauses.{IsSpelled, IsRead, IsOnly}
 use Rattle.c_exprs.specs.Read.{ends_expr}
 use Rattle.c_exprs.proofs.Laws as exprs
 use Rattle.c_decls.proofs.Laws as decls
-use Rattle.acsl_parser.specs.Read.{loop_at, assert_at}
 use Rattle.acsl_parser.proofs.Laws as annots
 use Rattle.c_stmts.specs.Read.{Body, block_at}
 use Rattle.c_stmts.specs.Spelled.{SpellsBodyAt}

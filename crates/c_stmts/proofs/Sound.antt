@@ -1,6 +1,5 @@
 -- The reader on lists reads only statements that the grammar spells.
-use Rattle.std.proofs.Common.{◌≡◌, ℕ, zero, suc, ◌+◌, ◌-◌, ◌≤◌, Bool, true, false, cond, nat_le, ◌&&◌, ⊎_elim, List, [], ◌∷◌, ◌++◌, length, codes, Option, Some, None, refl, sym, ap, ◌∙◌, subst, arith, append_assoc, append-nil, length-append}
-use Rattle.std.proofs.lemmas.Bool.{cases_Bool}
+use Rattle.std.proofs.Common.{◌≡◌, ℕ, zero, suc, ◌+◌, ◌-◌, ◌≤◌, Bool, true, false, List, [], ◌∷◌, ◌++◌, length, Option, Some, None, refl, sym, ap, ◌∙◌, subst, arith, append_assoc, append-nil, length-append}
 use Rattle.c_syntax.specs.declared.token.Token.{Token}
 use Rattle.c_syntax.specs.declared.token.TokenKind.{TokenKind}
 use Rattle.c_syntax.specs.declared.token.TokenKind.TheVariants as k
@@ -13,12 +12,12 @@ use Rattle.c_syntax.specs.Stmt as tree
 use Rattle.c_syntax.specs.Contract.{LoopAnnot}
 use Rattle.c_grammar.specs.Tokens.{Names, token, punct, word, annot_open, annot_close, first_line}
 use Rattle.c_grammar.specs.Exprs.{SpellsExpr, SpellsCond}
-use Rattle.c_grammar.specs.Annots.{SpellsLoop, SpellsAssert, loop_of}
+use Rattle.c_grammar.specs.Annots.{SpellsLoop, SpellsAssert}
 use Rattle.c_grammar.specs.Declarators.{SpellsVariables}
 use Rattle.c_grammar.specs.Declarators as d
 use Rattle.c_grammar.specs.Stmts as g
-use Rattle.c_grammar.specs.Stmts.{SpellsOptional, SpellsFirst, SpellsLoopAnnot, SpellsStmt, SpellsBody, SpellsBlock, SpellsStmts, SpellsCases, is_block, ends_short}
-use Rattle.c_grammar.specs.Reading.{Reader, ◌>>=◌, punct_at, word_at, keyword_at}
+use Rattle.c_grammar.specs.Stmts.{SpellsOptional, SpellsFirst, SpellsStmt, SpellsStmts, SpellsCases, ends_short}
+use Rattle.c_grammar.specs.Reading.{punct_at, word_at}
 use Rattle.c_grammar.proofs.Readers.{bind_ok, got, pair_is, Took, Sound}
 use Rattle.c_types.specs.Read.{starts_type}
 use Rattle.c_exprs.specs.Read.{expr_at, cond_at}
@@ -29,8 +28,8 @@ use Rattle.c_stmt_parts.specs.declared.forms.Form.TheVariants as form
 use Rattle.c_stmt_parts.specs.Read as parts_of
 use Rattle.c_stmts.specs.Read as r
 use Rattle.c_stmt_parts.specs.Read.{form_of}
-use Rattle.c_stmts.specs.Read.{Starting, Inside}
-use Rattle.c_stmts.proofs.Tokens.{punct_is, word_is, close_is, first_line_front, Begun, begun}
+use Rattle.c_stmts.specs.Read.{Starting}
+use Rattle.c_stmts.proofs.Tokens.{punct_is, close_is, first_line_front, Begun, begun}
 
 -- what is read in statements is spelled so
 pub record Parts (types : Names) : Type 0 where

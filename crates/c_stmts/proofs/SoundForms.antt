@@ -1,34 +1,26 @@
 -- The reader on lists reads only statements that the grammar spells: those with statements in them.
-use Rattle.std.proofs.Common.{◌≡◌, ℕ, zero, suc, ◌+◌, ◌-◌, ◌≤◌, ◌==◌, Bool, true, false, cond, nat_le, ◌&&◌, ⊎_elim, List, [], ◌∷◌, ◌++◌, length, codes, Option, Some, None, refl, sym, ap, ◌∙◌, subst, arith, append_assoc, append-nil, length-append}
+use Rattle.std.proofs.Common.{◌≡◌, ℕ, suc, ◌+◌, ◌-◌, Bool, true, false, ⊎_elim, List, [], ◌∷◌, ◌++◌, length, Option, Some, None, refl, sym, ap, ◌∙◌, subst, arith, append_assoc, append-nil, length-append}
 use Rattle.std.proofs.lemmas.Bool.{cases_Bool}
-use Rattle.std.proofs.lemmas.Bool.Decides.{nat_tests}
 use Rattle.c_syntax.specs.declared.token.Token.{Token}
-use Rattle.c_syntax.specs.declared.token.TokenKind.{TokenKind}
 use Rattle.c_syntax.specs.declared.token.TokenKind.TheVariants as k
 use Rattle.c_syntax.specs.declared.token.Punct.TheVariants as p
 use Rattle.c_syntax.specs.declared.token.Word.TheVariants as w
 use Rattle.c_syntax.specs.Expr as ex
 use Rattle.c_syntax.specs.Stmt as tree
-use Rattle.c_syntax.specs.Contract.{LoopAnnot}
-use Rattle.c_grammar.specs.Tokens.{Names, token, punct, word, annot_open, annot_close, first_line}
-use Rattle.c_grammar.specs.Exprs.{SpellsExpr, SpellsCond}
-use Rattle.c_grammar.specs.Annots.{SpellsLoop, loop_of}
+use Rattle.c_grammar.specs.Tokens.{Names, punct, word, first_line}
 use Rattle.c_grammar.specs.Stmts as g
-use Rattle.c_grammar.specs.Stmts.{SpellsOptional, SpellsFirst, SpellsLoopAnnot, SpellsStmt, SpellsBody, SpellsBlock, SpellsStmts, SpellsCases, is_block, ends_short, begins_labelled, defaults}
-use Rattle.c_grammar.specs.Reading.{Reader, ◌>>=◌, punct_at, word_at, keyword_at}
-use Rattle.c_grammar.proofs.Readers.{bind_ok, guard_ok, pair_is, Took, Sound}
+use Rattle.c_grammar.specs.Stmts.{SpellsStmt, SpellsBody, SpellsBlock, SpellsStmts, is_block, ends_short}
+use Rattle.c_grammar.specs.Reading.{punct_at, word_at}
+use Rattle.c_grammar.proofs.Readers.{bind_ok, pair_is}
 use Rattle.c_types.specs.Read.{starts_type}
-use Rattle.c_exprs.specs.Read.{expr_at, cond_at}
-use Rattle.acsl_parser.specs.Read.{loop_at}
-use Rattle.c_stmt_parts.specs.declared.forms.Form.{Form}
+use Rattle.c_exprs.specs.Read.{cond_at}
 use Rattle.c_stmt_parts.specs.declared.forms.Form.TheVariants as form
 use Rattle.c_stmt_parts.specs.Read as parts_of
 use Rattle.c_stmts.specs.Read as r
-use Rattle.c_stmt_parts.specs.Read.{form_of}
-use Rattle.c_stmts.specs.Read.{Starting, Inside}
-use Rattle.c_stmts.proofs.Tokens.{punct_is, word_is, close_is, first_line_front, Begun, begun}
+use Rattle.c_stmts.specs.Read.{Starting}
+use Rattle.c_stmts.proofs.Tokens.{punct_is, word_is}
 use Rattle.c_stmts.proofs.Sound as so
-use Rattle.c_stmts.proofs.Sound.{Parts, Tested, test_sound, Perhaps, optional_sound, first_sound, LocalsAt, locals_sound, Alone, plain_sound, assertion_sound, At, SoundFor, at_map, with_starts, never_short, beside_is, alone_at, ListAt, stmts_sound, InBlock, blocks, InSwitch, cases}
+use Rattle.c_stmts.proofs.Sound.{Parts, Tested, test_sound, locals_sound, At, SoundFor, at_map, with_starts, never_short, beside_is, stmts_sound, InBlock, blocks, InSwitch}
 
 -- ---- items
 

@@ -1,5 +1,5 @@
 -- The reader on lists reads only statements that the grammar spells: loops, `switch`, and all of them by their first token.
-use Rattle.std.proofs.Common.{◌≡◌, ℕ, zero, suc, ◌+◌, ◌-◌, ◌≤◌, ◌==◌, Bool, true, false, cond, nat_le, ◌&&◌, List, [], ◌∷◌, ◌++◌, length, codes, Option, Some, None, refl, sym, ap, ◌∙◌, subst, arith, append_assoc, append-nil, length-append}
+use Rattle.std.proofs.Common.{◌≡◌, ℕ, zero, suc, ◌+◌, ◌-◌, ◌≤◌, Bool, true, false, cond, nat_le, ◌&&◌, List, [], ◌∷◌, ◌++◌, length, codes, Option, Some, None, refl, sym, ap, ◌∙◌, subst, arith, append_assoc, length-append}
 use Rattle.std.proofs.lemmas.Bool.Decides.{nat_tests}
 use Rattle.c_syntax.specs.declared.token.Token.{Token}
 use Rattle.c_syntax.specs.declared.token.TokenKind.{TokenKind}
@@ -9,12 +9,11 @@ use Rattle.c_syntax.specs.Expr as ex
 use Rattle.c_syntax.specs.Stmt as tree
 use Rattle.c_syntax.specs.Contract.{LoopAnnot}
 use Rattle.c_grammar.specs.Tokens.{Names, token, punct, word, annot_open, annot_close, first_line}
-use Rattle.c_grammar.specs.Exprs.{SpellsExpr}
 use Rattle.c_grammar.specs.Annots.{SpellsLoop, loop_of}
 use Rattle.c_grammar.specs.Stmts as g
-use Rattle.c_grammar.specs.Stmts.{SpellsOptional, SpellsFirst, SpellsLoopAnnot, SpellsStmt, SpellsBody, SpellsBlock, SpellsStmts, SpellsCases, ends_short, begins_labelled, defaults}
-use Rattle.c_grammar.specs.Reading.{Reader, ◌>>=◌, punct_at, word_at, keyword_at}
-use Rattle.c_grammar.proofs.Readers.{bind_ok, guard_ok, pair_is, Took, Sound}
+use Rattle.c_grammar.specs.Stmts.{SpellsOptional, SpellsFirst, SpellsLoopAnnot, SpellsStmt, SpellsBlock, SpellsStmts, SpellsCases, begins_labelled, defaults}
+use Rattle.c_grammar.specs.Reading.{◌>>=◌, punct_at, word_at, keyword_at}
+use Rattle.c_grammar.proofs.Readers.{bind_ok, pair_is, Took}
 use Rattle.acsl_parser.specs.Read.{loop_at}
 use Rattle.c_stmt_parts.specs.declared.forms.Form.{Form}
 use Rattle.c_stmt_parts.specs.declared.forms.Form.TheVariants as form
@@ -24,8 +23,8 @@ use Rattle.c_stmt_parts.specs.Read.{form_of}
 use Rattle.c_stmts.specs.Read.{Starting, Inside, Body, body_of, most_inside}
 use Rattle.c_stmts.proofs.Tokens.{punct_is, word_is, close_is, first_line_front, Begun, begun}
 use Rattle.c_stmts.proofs.Turns.{deep_by, deep_annotated, deep_is}
-use Rattle.c_stmts.proofs.Sound.{Parts, Tested, test_sound, Perhaps, optional_sound, first_sound, Alone, plain_sound, assertion_sound, At, SoundFor, with_starts, alone_at, ListAt, stmts_sound, InBlock, blocks, InSwitch, cases}
-use Rattle.c_stmts.proofs.SoundForms.{pushed, block_item_sound, switch_item_sound, BracesAt, braces_sound, braces_at, body_sound, choice_sound}
+use Rattle.c_stmts.proofs.Sound.{Parts, Tested, test_sound, optional_sound, first_sound, plain_sound, assertion_sound, At, SoundFor, with_starts, alone_at, stmts_sound, InBlock, blocks, InSwitch, cases}
+use Rattle.c_stmts.proofs.SoundForms.{pushed, block_item_sound, switch_item_sound, braces_sound, braces_at, body_sound, choice_sound}
 
 -- ---- loops
 

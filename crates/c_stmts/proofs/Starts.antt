@@ -1,5 +1,5 @@
 -- The first tokens of statements.
-use Rattle.std.proofs.Common.{◌≡◌, ℕ, suc, ◌≤◌, Bool, true, false, List, [], ◌∷◌, ◌++◌, length, Option, Some, None, refl, sym, ap, ◌∙◌, subst, arith, append_assoc, ⊎_elim}
+use Rattle.std.proofs.Common.{◌≡◌, ℕ, ◌≤◌, Bool, true, false, List, [], ◌∷◌, ◌++◌, length, Some, None, refl, sym, ap, ◌∙◌, subst, arith}
 use Rattle.c_syntax.specs.declared.token.Token.{Token}
 use Rattle.c_syntax.specs.declared.token.TokenKind.{TokenKind}
 use Rattle.c_syntax.specs.declared.token.TokenKind.TheVariants as k
@@ -11,12 +11,12 @@ use Rattle.c_syntax.specs.declared.expr.UnOp.{UnOp}
 use Rattle.c_syntax.specs.Expr as ex
 use Rattle.c_syntax.specs.Stmt as tree
 use Rattle.c_syntax.specs.Contract.{LoopAnnot}
-use Rattle.c_grammar.specs.Tokens.{Names, token, punct, word, annot_open}
+use Rattle.c_grammar.specs.Tokens.{Names, token, punct, word}
 use Rattle.c_grammar.specs.Operators.{unop_of, step_of}
 use Rattle.c_grammar.specs.Exprs as exprs
 use Rattle.c_grammar.specs.Exprs.{SpellsPrimary, SpellsPostfix, SpellsUnary, SpellsBinary, SpellsCond, SpellsExpr}
 use Rattle.c_grammar.specs.Stmts as g
-use Rattle.c_grammar.specs.Stmts.{SpellsLoopAnnot, SpellsStmt, SpellsBlock, is_block}
+use Rattle.c_grammar.specs.Stmts.{SpellsLoopAnnot, SpellsStmt, is_block}
 use Rattle.c_grammar.specs.Reading.{punct_at, word_at}
 use Rattle.c_stmt_parts.specs.declared.forms.Form.{Form}
 use Rattle.c_stmt_parts.specs.declared.forms.Form.TheVariants as form

@@ -1,5 +1,5 @@
 -- Single tokens, and the statements that begin with them.
-use Rattle.std.proofs.Common.{◌≡◌, ℕ, suc, ◌≤◌, Bool, true, false, List, [], ◌∷◌, ◌++◌, length, Option, Some, None, refl, ap, ◌∙◌, arith}
+use Rattle.std.proofs.Common.{◌≡◌, ℕ, ◌≤◌, List, [], ◌∷◌, ◌++◌, length, Some, refl, ap, ◌∙◌, arith}
 use denote.Enum.Bare.{sameb, same_true}
 use Rattle.c_syntax.specs.declared.token.Token.{Token}
 use Rattle.c_syntax.specs.declared.token.TokenKind.{TokenKind}
@@ -12,7 +12,7 @@ use Rattle.c_syntax.specs.contracts.token.Punct.{the_type as punct_type}
 use Rattle.c_syntax.specs.contracts.token.Word.{the_type as word_type}
 use Rattle.c_grammar.specs.Tokens.{token, punct, word, annot_close, first_line}
 use Rattle.c_grammar.specs.Reading.{punct_at, punct_by, word_at, word_by}
-use Rattle.c_grammar.proofs.Readers.{guard_ok, pair_is}
+use Rattle.c_grammar.proofs.Readers.{guard_ok}
 use Rattle.c_stmt_parts.specs.declared.forms.Form.{Form}
 use Rattle.c_stmt_parts.specs.declared.forms.Form.TheVariants as form
 use Rattle.c_stmt_parts.specs.Read.{form_of, annot_close_at, close_by}

@@ -11,7 +11,7 @@ use Rattle.c_grammar.specs.declared.fault.Fault.{Fault}
 use Rattle.c_grammar.specs.declared.fault.Fault.TheVariants.{Syntax, NoMemory}
 use Rattle.c_grammar.specs.Tokens.{Names, first_line}
 use Rattle.c_types.specs.Read.{starts_type}
-use Rattle.c_grammar.specs.Reading.{Reader, ◌>>=◌, punct_at, keyword_at}
+use Rattle.c_grammar.specs.Reading.{◌>>=◌, punct_at, keyword_at}
 use Rattle.c_grammar.specs.Views.{Gives}
 use Rattle.c_stmt_parts.specs.declared.forms.Form.{Form}
 use Rattle.c_stmt_parts.specs.declared.forms.Form.TheVariants as form

@@ -1,5 +1,5 @@
 // The body of a function.
-ghost use Rattle.std.specs.Prelude.{◌≡◌, ◌≤◌, ◌-◌, length, map};
+ghost use Rattle.std.specs.Prelude.{◌≤◌, ◌-◌, length};
 ghost use Rattle.c_grammar.specs.Views.{Gives};
 ghost use Rattle.c_types.specs.Clauses.{IsOnly, IsSpelled};
 ghost use Rattle.c_stmts.specs.Read as spec;

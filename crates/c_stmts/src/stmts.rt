@@ -1,7 +1,7 @@
 // Statements, and the blocks that they make.
-ghost use Rattle.std.specs.Prelude.{◌≡◌, ◌≤◌, ◌-◌, true, false, length};
+ghost use Rattle.std.specs.Prelude.{◌≤◌, ◌-◌, true, false, length};
 ghost use Rattle.c_grammar.specs.Views.{Gives};
-ghost use Rattle.c_syntax.specs.View.{view_expr, view_loop, view_stmt};
+ghost use Rattle.c_syntax.specs.View.{view_loop};
 ghost use Rattle.c_stmts.specs.Read as spec;
 ghost use Rattle.c_stmts.specs.Views.{other_with, stmt_with, stmts_with};
 

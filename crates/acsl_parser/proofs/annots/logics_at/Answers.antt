@@ -1,6 +1,5 @@
-use Rattle.std.proofs.Common.{◌-◌, length, map}
-use Rattle.c_syntax.specs.View.{view_contract, view_logic, view_loop}
-use Rattle.acsl_parser.specs.Views.{view_assert}
+use Rattle.std.proofs.Common.{map}
+use Rattle.c_syntax.specs.View.{view_logic}
 use Rattle.acsl_parser.specs.Read as spec
 use Rattle.acsl_parser.proofs.Promises.{spelled_here, only_here}
 use Rattle.acsl_parser.proofs.Laws as law

@@ -1,4 +1,4 @@
-use Rattle.std.proofs.Common.{arith, ◌∙◌, ◌-◌, ◌+◌, length, map, sym}
+use Rattle.std.proofs.Common.{arith, ◌∙◌, ◌-◌, ◌+◌, length, sym}
 use Rattle.std.proofs.lemmas.Result.{err_from_is_err_and}
 use Rattle.acsl_parser.specs.Read.{plain_name_at}
 use Rattle.acsl_parser.proofs.Reading.{items_end, items_stop, plain_next, plain_fault}

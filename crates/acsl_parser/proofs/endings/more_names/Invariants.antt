@@ -1,4 +1,4 @@
-use Rattle.std.proofs.Common.{◌≡◌, ◌-◌, map}
+use Rattle.std.proofs.Common.{◌≡◌, ◌-◌}
 use Rattle.acsl_parser.specs.Read.{plain_name_at}
 use Rattle.acsl_parser.specs.Lists.{more_separated, with_items}
 use Rattle.acsl_parser.proofs.endings.more_names.Given as goal

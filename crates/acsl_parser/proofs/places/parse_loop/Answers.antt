@@ -1,4 +1,4 @@
-use Rattle.std.proofs.Common.{◌-◌, true, length, drop, refl, sym, ap, ◌∙◌, arith}
+use Rattle.std.proofs.Common.{◌-◌, true, length, refl, sym, ap, ◌∙◌, arith}
 use Rattle.std.proofs.lemmas.Option.{slice_get_read}
 use Rattle.c_syntax.specs.View.{view_loop}
 use Rattle.c_grammar.specs.Annots.{SpellsLoop}

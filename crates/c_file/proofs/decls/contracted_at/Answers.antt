@@ -1,4 +1,4 @@
-use Rattle.std.proofs.Common.{◌≤◌, length, arith}
+use Rattle.std.proofs.Common.{arith}
 use Rattle.c_file.proofs.Sound.{contract_shorter, type_shorter}
 use Rattle.c_file.proofs.decls.contracted_at.Goals as goal
 

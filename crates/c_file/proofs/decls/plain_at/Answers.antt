@@ -1,4 +1,4 @@
-use Rattle.std.proofs.Common.{◌≤◌, length, arith}
+use Rattle.std.proofs.Common.{arith}
 use Rattle.c_file.proofs.Sound.{type_shorter}
 use Rattle.c_file.proofs.decls.plain_at.Goals as goal
 

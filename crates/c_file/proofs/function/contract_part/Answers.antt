@@ -1,4 +1,4 @@
-use Rattle.std.proofs.Common.{◌≤◌, length, arith}
+use Rattle.std.proofs.Common.{arith}
 use Rattle.c_file.proofs.Tokens.{open_shorter}
 use Rattle.c_file.proofs.function.contract_part.Goals as goal
 

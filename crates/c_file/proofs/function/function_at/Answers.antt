@@ -1,4 +1,4 @@
-use Rattle.std.proofs.Common.{◌≤◌, length, arith}
+use Rattle.std.proofs.Common.{arith}
 use Rattle.c_file.proofs.Sound.{header_shorter}
 use Rattle.c_file.proofs.function.function_at.Goals as goal
 

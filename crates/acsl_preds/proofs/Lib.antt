@@ -1,6 +1,7 @@
 pub mod Binding
 pub mod Reading
 pub mod Ends
+pub mod Finished
 pub mod Below
 pub mod Trailing
 pub mod BindersSound

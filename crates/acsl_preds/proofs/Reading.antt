@@ -168,7 +168,7 @@ under_is types room turns form ts =
     let less : suc room - 1 ≡ room = omega arith in
     rw (some, less) refl
 
-form_is : (types : Names) (room turns : ℕ) (form : Form) (ts : List Token) → form_at types room turns form ts ≡ form_over types room (below_at types room turns) (go_at types room turns) form ts
+pub form_is : (types : Names) (room turns : ℕ) (form : Form) (ts : List Token) → form_at types room turns form ts ≡ form_over types room (below_at types room turns) (go_at types room turns) form ts
 unfolding form_at
 form_is types zero turns form ts = turned_is types 0 turns none_below form ts
 form_is types (suc room) turns form ts =

@@ -2,3 +2,4 @@ pub mod Next
 pub mod Binders
 pub mod Read
 pub mod Views
+pub mod Parts

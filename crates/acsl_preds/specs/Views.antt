@@ -12,6 +12,9 @@ use Rattle.c_grammar.specs.Operators as op
 use Rattle.c_grammar.specs.Preds.{SpellsPred}
 use Rattle.acsl_preds.specs.declared.next.Connective.{Connective}
 use Rattle.acsl_preds.specs.declared.next.Connective.TheVariants as c
+use Rattle.acsl_preds.specs.declared.preds.Form as code
+use Rattle.acsl_preds.specs.declared.preds.Form.TheVariants as f
+use Rattle.acsl_preds.specs.Read.{Form, an_operand, an_implied, a_whole}
 
 abbrev pub view_connective : Connective → op.Connective
 view_connective c.Both = op.both
@@ -29,6 +32,11 @@ view_value x = (x.0, view_term x.1)
 
 abbrev pub view_arms : Pred × Pred → r.Pred × r.Pred
 view_arms x = (view_pred x.0, view_pred x.1)
+
+abbrev pub view_form : code.Form → Form
+view_form f.Operand = an_operand
+view_form f.Implied = an_implied
+view_form f.Whole = a_whole
 
 -- a predicate, whether it trails or not
 abbrev pub SpellsSomePred : Names → (room : ℕ) → List Token → r.Pred → Type 0

@@ -5,6 +5,7 @@ mod atoms;
 mod binders;
 mod chains;
 mod next;
+mod parts;
 mod preds;
 mod trees;
 

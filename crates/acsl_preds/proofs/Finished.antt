@@ -42,9 +42,9 @@ ended_is : {X : Type 0} (go : Reader r.Pred) (make : X → r.Pred) (o : Option (
 ended_is go make None = refl
 ended_is go make (Some x) = refl
 
-whole_is : (go : Reader r.Pred) (o : Option (r.Pred × List Token)) → finished go (seen_as ended o) ≡ o
-whole_is go None = refl
-whole_is go (Some x) = refl
+atom_is : (go : Reader r.Pred) (o : Option (r.Pred × List Token)) → finished go (seen_as ended o) ≡ o
+atom_is go None = refl
+atom_is go (Some x) = refl
 
 opened_is : {X : Type 0} (go : Reader r.Pred) (make : X → r.Pred → r.Pred) (o : Option (X × List Token)) → finished go (seen_as (λ x. open_before (make x)) o) ≡ (o >>= λ x. seen_as (make x.0) (body_at go x.1))
 opened_is go make None = refl
@@ -152,7 +152,7 @@ operand_part_is types room below go (t ∷ ts) = by_kind t.kind
     by_kind (k.Word w.Forall) = opened_is go (r.for_all t.line) (bound_at types ts)
     by_kind (k.Word w.Exists) = opened_is go (r.for_some t.line) (bound_at types ts)
     by_kind (k.Word w.Let) = opened_is go (λ x. r.let_in t.line x.0 x.1) (value_at types room ts)
-    by_kind _ = whole_is go (atom_at types room (below a_whole) (t ∷ ts))
+    by_kind _ = atom_is go (atom_at types room (below a_whole) (t ∷ ts))
 
 implies_is : (go below : Reader r.Pred) (a : r.Pred) (ts : List Token) (o : Option (ℕ × List Token)) → finished go (implies_part o below a ts) ≡ implies_by o below a ts
 implies_is go below a ts None = refl

@@ -1,5 +1,5 @@
 -- The equations of the readers, in the code's words.
-use Rattle.std.proofs.Common.{◌≡◌, ℕ, zero, suc, ◌+◌, ◌-◌, ◌≤◌, Bool, true, false, cond, eqb, List, [], ◌∷◌, ◌++◌, length, Option, Some, None, Err, refl, sym, ap, ◌∙◌, add-one, arith, append_assoc, append-nil}
+use Rattle.std.proofs.Common.{◌≡◌, ℕ, zero, suc, ◌+◌, ◌-◌, Bool, true, false, cond, eqb, List, [], ◌∷◌, ◌++◌, length, Option, Some, None, Err, refl, sym, ap, ◌∙◌, add-one, arith, append_assoc, append-nil}
 use Rattle.std.specs.List.{list_all}
 use Rattle.std.specs.Prelude.{◌||◌, ◌&&◌, not}
 use Rattle.std.proofs.lemmas.Bool.Decides.{nat_tests}
@@ -13,11 +13,10 @@ use Rattle.c_grammar.specs.declared.fault.Fault.{Fault}
 use Rattle.c_grammar.specs.declared.fault.Fault.TheVariants.{Syntax, NoMemory}
 use Rattle.c_grammar.specs.Tokens.{Names}
 use Rattle.c_grammar.specs.Operators.{is_chain, goes_up, goes_down}
-use Rattle.c_grammar.specs.Preds.{connected}
 use Rattle.c_grammar.specs.Reading.{Reader, ◌>>=◌, punct_at, chain, levels}
 use Rattle.c_grammar.specs.Views.{Gives}
-use Rattle.acsl_preds.specs.Read.{comparison_at, connective_at, with_items, is_unequal, with_tail, tail_at, more_items, Form, an_operand, an_implied, a_whole, below_at, go_at, none_below, form_over, operand_over, implied_over, whole_over, iff_over, iff_of, iff_at, turned, form_at}
-use Rattle.acsl_preds.proofs.Binding.{with_items_after, gives_fault}
+use Rattle.acsl_preds.specs.Read.{comparison_at, with_items, is_unequal, with_tail, tail_at, more_items, Form, an_operand, an_implied, a_whole, below_at, go_at, none_below, form_over, operand_over, implied_over, whole_over, iff_over, iff_of, iff_at, turned, form_at}
+use Rattle.acsl_preds.proofs.Binding.{with_items_after}
 
 -- ---- chains of comparisons
 
@@ -96,57 +95,11 @@ pub more_items_fault : {X Y Z : Type 0} (see : Y → X) (see' : Z → List X) (r
 more_items_fault see see' read turns turns' xs ts line after Syntax one found h = rw (more_items_go read turns turns' ts line after one found, h) refl
 more_items_fault see see' read turns turns' xs ts line after NoMemory one found h = tt
 
--- ---- levels of connectives, and `<==>`
-
-pub joined_zero : (n : ℕ) (read : Reader r.Pred) (ts : List Token) → n ≡ 0 → levels connected connective_at n read ts ≡ read ts
-unfolding levels
-joined_zero n read ts e = rw e refl
-
-pub joined_more : (n : ℕ) (read : Reader r.Pred) (ts : List Token) → 1 ≤ n
-    → levels connected connective_at n read ts ≡ (levels connected connective_at (n - 1) read ts >>= λ a. chain connected (connective_at n) (levels connected connective_at (n - 1) read) (length a.1) a.0 a.1)
-unfolding levels
-joined_more zero read ts le = absurd (omega arith)
-joined_more (suc n) read ts le =
-    let e : n ≡ suc n - 1 = omega arith in
-    ap (λ m. levels connected connective_at m read ts >>= λ a. chain connected (connective_at (suc n)) (levels connected connective_at m read) (length a.1) a.0 a.1) e
+-- ---- `<==>`
 
 pub iff_more : (read : Reader r.Pred) (ts : List Token) → iff_over read ts ≡ (read ts >>= λ a. chain iff_of (iff_at 1) read (length a.1) a.0 a.1)
 unfolding levels
 iff_more read ts = refl
-
-pub chain_ends : {O : Type 0} (make : O → ℕ → r.Pred → r.Pred → r.Pred) (operator : Reader (O × ℕ)) (read : Reader r.Pred) (turns : ℕ) (a : r.Pred) (ts : List Token) → turns ≡ 0 → chain make operator read turns a ts ≡ Some (a, ts)
-unfolding chain
-chain_ends make operator read turns a ts e = rw e refl
-
-pub chain_stops : {O : Type 0} (make : O → ℕ → r.Pred → r.Pred → r.Pred) (operator : Reader (O × ℕ)) (read : Reader r.Pred) (turns : ℕ) (a : r.Pred) (ts : List Token) → operator ts ≡ None → chain make operator read turns a ts ≡ Some (a, ts)
-unfolding chain
-chain_stops make operator read zero a ts e = refl
-chain_stops make operator read (suc turns) a ts e = rw e refl
-
-pub iff_stops : (read : Reader r.Pred) (turns : ℕ) (a : r.Pred) (ts : List Token) → punct_at p.Iff ts ≡ None → chain iff_of (iff_at 1) read turns a ts ≡ Some (a, ts)
-iff_stops read turns a ts e = chain_stops iff_of (iff_at 1) read turns a ts (rw e refl)
-
-pub iff_found : (ts : List Token) (line : ℕ) (after : List Token) → punct_at p.Iff ts ≡ Some (line, after) → iff_at 1 ts ≡ Some ((p.Iff, line), after)
-iff_found ts line after e = rw e refl
-
-chain_goes : {O : Type 0} (make : O → ℕ → r.Pred → r.Pred → r.Pred) (operator : Reader (O × ℕ)) (read : Reader r.Pred) (turns turns' : ℕ) (a : r.Pred) (ts : List Token) (op : O) (line : ℕ) (after : List Token)
-    → turns ≡ turns' + 1 → operator ts ≡ Some ((op, line), after)
-    → chain make operator read turns a ts ≡ (read after >>= λ b. chain make operator read turns' (make op line a b.0) b.1)
-unfolding chain
-chain_goes make operator read turns turns' a ts op line after e found = rw (e, add-one, found) refl
-
-pub chain_turn : {O : Type 0} (make : O → ℕ → r.Pred → r.Pred → r.Pred) (operator : Reader (O × ℕ)) (read : Reader r.Pred) (turns turns' : ℕ) (a b joined : r.Pred) (ts : List Token) (op : O) (line : ℕ) (after rest : List Token)
-    → turns ≡ turns' + 1 → operator ts ≡ Some ((op, line), after) → read after ≡ Some (b, rest) → joined ≡ make op line a b
-    → chain make operator read turns' joined rest ≡ chain make operator read turns a ts
-chain_turn make operator read turns turns' a b joined ts op line after rest one found took made =
-    ap (λ c. chain make operator read turns' c rest) made
-    ∙ sym (chain_goes make operator read turns turns' a ts op line after one found ∙ ap (λ x. x >>= λ b. chain make operator read turns' (make op line a b.0) b.1) took)
-
-pub chain_fault : {O X : Type 0} (see : X → r.Pred) (make : O → ℕ → r.Pred → r.Pred → r.Pred) (operator : Reader (O × ℕ)) (read : Reader r.Pred) (turns turns' : ℕ) (a : r.Pred) (ts : List Token) (op : O) (line : ℕ) (after : List Token) (e : Fault)
-    → turns ≡ turns' + 1 → operator ts ≡ Some ((op, line), after)
-    → Gives see (Err e) (read after) → Gives see (Err e) (chain make operator read turns a ts)
-chain_fault see make operator read turns turns' a ts op line after e one found h =
-    rw (chain_goes make operator read turns turns' a ts op line after one found) (gives_fault see see (read after) _ e h)
 
 -- ---- forms
 

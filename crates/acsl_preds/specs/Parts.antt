@@ -46,22 +46,24 @@ operand_part_by types room below line (k.Word w.Exists) ts all = seen_as (λ (xs
 operand_part_by types room below line (k.Word w.Let) ts all = seen_as (λ (x : List ℕ × t.Term). open_before (r.let_in line x.0 x.1)) (value_at types room ts)
 operand_part_by types room below line _ ts all = seen_as ended (atom_at types room (below a_whole) all)
 
+-- {"!"} atom, or a quantifier or `\let` up to its body
 abbrev pub operand_part : Names → (room : ℕ) → (below : Form → Reader r.Pred) → Reader Part
 operand_part types room below [] = None
 operand_part types room below (t ∷ ts) = operand_part_by types room below t.line t.kind ts (t ∷ ts)
 
 -- ---- levels of operators, each grouped to the left
 
+-- goes on after an operator, or stops before what is none; behind an operand that is open nothing more is read
 abbrev pub linked_part : {O : Type 0} → (O → ℕ → r.Pred → r.Pred → r.Pred) → Option ((O × ℕ) × List Token) → r.Pred → List Token → Reader Part → (r.Pred → Reader Part) → Option (Part × List Token)
 linked_part make None a ts operand go = Some (ended a, ts)
 linked_part make (Some x) a ts operand go = operand x.1 >>= λ b. on_from go (within (make x.0.0 x.0.1 a) b.0) b.1
 
--- more operands of one level, at most so many; behind one that is open nothing more is read
+-- more operands of one level, at most so many, up to one that is open
 unfoldable pub chain_part : {O : Type 0} → (make : O → ℕ → r.Pred → r.Pred → r.Pred) → (operator : Reader (O × ℕ)) → (operand : Reader Part) → (turns : ℕ) → r.Pred → Reader Part
 chain_part make operator operand zero a ts = Some (ended a, ts)
 chain_part make operator operand (suc turns) a ts = linked_part make (operator ts) a ts operand (chain_part make operator operand turns)
 
--- operators up to the level, over these operands
+-- operators up to the level, over these operands, up to one that is open
 unfoldable pub levels_part : {O : Type 0} → (make : O → ℕ → r.Pred → r.Pred → r.Pred) → (operator : ℕ → Reader (O × ℕ)) → (n : ℕ) → Reader Part → Reader Part
 levels_part make operator zero operand ts = operand ts
 levels_part make operator (suc n) operand ts =
@@ -69,6 +71,7 @@ levels_part make operator (suc n) operand ts =
 
 -- ---- forms
 
+-- the right side of `==>`, which is a form of its own and so is read to its end
 abbrev pub implies_part : Option (ℕ × List Token) → (below : Reader r.Pred) → r.Pred → Reader Part
 implies_part None below a ts = Some (ended a, ts)
 implies_part (Some x) below a ts = seen_as (λ (b : r.Pred). ended (r.implies x.0 a b)) (below x.1)
@@ -81,6 +84,7 @@ implied_part below operand ts = levels_part connected connective_at 3 operand ts
 abbrev pub iff_part : (implied : Reader Part) → Reader Part
 iff_part implied ts = levels_part iff_of iff_at 1 implied ts
 
+-- the arms of a conditional, which are forms of their own
 abbrev pub cond_part : Option (ℕ × List Token) → (below : Reader r.Pred) → r.Pred → Reader Part
 cond_part None below a ts = Some (ended a, ts)
 cond_part (Some x) below a ts = seen_as (λ (arms : r.Pred × r.Pred). ended (r.cond x.0 a arms.0 arms.1)) (arms_at below x.1)
@@ -89,7 +93,7 @@ cond_part (Some x) below a ts = seen_as (λ (arms : r.Pred × r.Pred). ended (r.
 abbrev pub whole_part : (below : Form → Reader r.Pred) → (implied : Reader Part) → Reader Part
 whole_part below implied ts = iff_part implied ts >>= λ x. on_from (λ a ts. cond_part (punct_at p.Question ts) (below a_whole) a ts) x.0 x.1
 
--- the part that a form begins with
+-- the part that a form begins with, where `below` reads what has one form more open
 abbrev pub part_over : Names → (room : ℕ) → (below : Form → Reader r.Pred) → Form → Reader Part
 part_over types room below an_operand = operand_part types room below
 part_over types room below an_implied = implied_part below (operand_part types room below)
@@ -102,6 +106,7 @@ abbrev pub end_of : (go : Reader r.Pred) → Part → Reader r.Pred
 end_of go (ended a) ts = Some (a, ts)
 end_of go (open_before around) ts = seen_as around (body_at go ts)
 
+-- what is read of a form where its first part was read
 abbrev pub finished : (go : Reader r.Pred) → Option (Part × List Token) → Option (r.Pred × List Token)
 finished go read = read >>= λ x. end_of go x.0 x.1
 
@@ -119,6 +124,7 @@ implied_at types room turns = implied_part (below_at types room turns) (operand_
 unfoldable pub whole_at : Names → (room turns : ℕ) → Reader Part
 whole_at types room turns = whole_part (below_at types room turns) (implied_at types room turns)
 
+-- the part that a form begins with
 abbrev pub part_at : Names → (room turns : ℕ) → Form → Reader Part
 part_at types room turns an_operand = operand_at types room turns
 part_at types room turns an_implied = implied_at types room turns
@@ -160,6 +166,7 @@ unfoldable pub around_all : List (List Frame) → r.Pred → r.Pred
 around_all [] a = a
 around_all (x ∷ xs) a = around x (around_all xs a)
 
+-- a part, as readers of parts have it
 abbrev pub view_part : made.Part → Part
 view_part (c.Closed a) = ended (view_pred a)
 view_part (c.Open frames) = open_before (around frames)

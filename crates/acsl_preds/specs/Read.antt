@@ -16,7 +16,7 @@ use Rattle.c_syntax.specs.Pred as r
 use Rattle.c_grammar.specs.Tokens.{Names}
 use Rattle.c_grammar.specs.Operators.{is_chain}
 use Rattle.c_grammar.specs.Preds.{connected}
-use Rattle.c_grammar.specs.Reading.{Reader, ◌>>=◌, nothing, punct_at, new_name_at, unless_type, chain, levels}
+use Rattle.c_grammar.specs.Reading.{Reader, ◌>>=◌, nothing, punct_at, new_name_at, unless_type, levels}
 use Rattle.acsl_terms.specs.Next.{begins_chain}
 use Rattle.acsl_terms.specs.Read.{term_at, chain_term_at, some_terms_at, pointer_at}
 pub use Rattle.acsl_preds.specs.Next.{ends_atom, ends_pred, comparison_at, connective_at, with_items}
@@ -229,10 +229,3 @@ below_at types room turns form = under (λ room. form_at types room turns form) 
 
 abbrev pub go_at : Names → (room turns : ℕ) → Reader r.Pred
 go_at types room turns ts = if turns == 0 then None else form_at types room (turns - 1) a_whole ts
-
--- more operands of a level, behind the first
-abbrev pub joined_from : (level : ℕ) → (operand : Reader r.Pred) → r.Pred → Reader r.Pred
-joined_from level operand a ts = chain connected (connective_at level) (levels connected connective_at (level - 1) operand) (length ts) a ts
-
-abbrev pub iff_from : (implied : Reader r.Pred) → r.Pred → Reader r.Pred
-iff_from implied a ts = chain iff_of (iff_at 1) implied (length ts) a ts

@@ -23,7 +23,7 @@ fn reads_a_body(rt: HostRuntime) -> Result<(), Fail> {
     Ok(())
 }
 
-fn is_fault(stop: Stop, rule: Rule, line: Line) -> bool {
+pub fn is_fault(stop: Stop, rule: Rule, line: Line) -> bool {
     match stop {
         Stop::Refused(refusal) => refusal.rule == rule && refusal.line == line,
         Stop::NoMemory => false,

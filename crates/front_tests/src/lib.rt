@@ -7,6 +7,8 @@ mod annotations;
 #[cfg(test)]
 mod annots;
 #[cfg(test)]
+mod chains;
+#[cfg(test)]
 mod decls;
 #[cfg(test)]
 mod exprs;

@@ -3,8 +3,8 @@
 prints time and memory of each.
 
 Builds a small program around c_lexer, or around c_front, in a folder of its own, makes the texts, and runs the program
-on each, with 8 MB of stack. Run by hand: bench/reading.py tokens, or bench/reading.py trees. The program is proved
-first, as any; with a third word, `unproved`, it is built at once and checks what a proof would rule out.
+on each, with 8 MB of stack. The program is proved first, as any. Run by hand: bench/reading.py tokens, or
+bench/reading.py trees
 """
 import os
 import subprocess
@@ -146,7 +146,7 @@ def sources(trees):
     return LEXER + PARSER, "wp_base wp_io core_prog c_front", MAIN.replace("USES", "use c_front::read_program;") + READ_TREES
 
 
-def build(room, trees, proved):
+def build(room, trees):
     crates, named, main = sources(trees)
     os.makedirs(f"{room}/crates/read_file/src")
     os.mkdir(f"{room}/.git")
@@ -158,7 +158,7 @@ def build(room, trees, proved):
     with open(f"{room}/crates/read_file/src/main.rt", "w") as out:
         out.write(main)
     # Building ends in a run; one without a file only ends with its status.
-    log = subprocess.run(["rt", "run" if proved else "try"], cwd=f"{room}/crates/read_file", capture_output=True, text=True)
+    log = subprocess.run(["rt", "run"], cwd=f"{room}/crates/read_file", capture_output=True, text=True)
     program = f"{room}/crates/read_file/out/read_file"
     if not os.path.exists(program):
         sys.exit(log.stdout + log.stderr)
@@ -176,11 +176,11 @@ def run(program, path, megabytes=None):
 
 
 def main():
-    if sys.argv[1:2] not in (["tokens"], ["trees"]) or sys.argv[2:] not in ([], ["unproved"]):
-        sys.exit("usage: bench/reading.py tokens | trees [unproved]")
+    if sys.argv[1:] not in (["tokens"], ["trees"]):
+        sys.exit("usage: bench/reading.py tokens | trees")
     trees = sys.argv[1] == "trees"
     with tempfile.TemporaryDirectory() as room:
-        program = build(room, trees, not sys.argv[2:])
+        program = build(room, trees)
         print(f"{'text':34}{'bytes':>9}{'seconds':>10}{'MB':>6}  status")
         for name, text in (TREES if trees else TOKENS).items():
             path = f"{room}/text.c"

@@ -16,7 +16,7 @@ TOP = os.path.dirname(os.path.dirname(os.path.abspath(__file__)))
 LIMIT = 1048576
 MEMORY = [4, 8, 12, 16, 24, 32, 48, 64, 96, 128, 192, 256]
 LEXER = ["wp_base", "wp_io", "c_syntax", "c_lexer"]
-PARSER = ["c_grammar", "c_types", "c_exprs", "c_decls", "acsl_terms", "acsl_preds", "acsl_clauses", "acsl_parser", "c_stmt_parts", "c_stmts", "c_file", "c_parser", "core_prog", "core_names", "c_core", "c_front"]
+PARSER = ["c_grammar", "parse_types", "parse_exprs", "parse_decls", "parse_terms", "parse_preds", "parse_clauses", "acsl_parser", "parse_leaf_stmts", "parse_stmts", "parse_file", "c_parser", "core_prog", "core_names", "c_core", "c_front"]
 
 MAIN = r"""//! Reads a file, and tells by its status whether it is read whole.
 #![tactic(auto)]

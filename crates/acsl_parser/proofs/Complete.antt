@@ -13,18 +13,18 @@ use Rattle.c_grammar.specs.Preds.{SpellsPred}
 use Rattle.c_grammar.specs.Annots as g
 use Rattle.c_grammar.specs.Reading.{Reader, ◌>>=◌, punct_at, word_at}
 use Rattle.c_grammar.proofs.Readers.{got}
-use Rattle.acsl_terms.specs.Next.{ends_term}
-use Rattle.acsl_terms.specs.Read.{term_at, entry_at}
-use Rattle.acsl_terms.proofs.Laws.{term_complete, entry_complete}
-use Rattle.acsl_preds.specs.Next.{ends_pred}
-use Rattle.acsl_preds.specs.Read.{pred_at}
-use Rattle.acsl_clauses.specs.declared.items.Part.{Part}
+use Rattle.parse_terms.specs.Next.{ends_term}
+use Rattle.parse_terms.specs.Read.{term_at, entry_at}
+use Rattle.parse_terms.proofs.Laws.{term_complete, entry_complete}
+use Rattle.parse_preds.specs.Next.{ends_pred}
+use Rattle.parse_preds.specs.Read.{pred_at}
+use Rattle.parse_clauses.specs.declared.items.Part.{Part}
 use Rattle.acsl_parser.specs.declared.words.ClauseWord.{ClauseWord}
 use Rattle.acsl_parser.specs.declared.words.ClauseWord.TheVariants as cw
 use Rattle.acsl_parser.specs.declared.words.LoopWord.{LoopWord}
 use Rattle.acsl_parser.specs.declared.words.LoopWord.TheVariants as lw
 use Rattle.acsl_parser.specs.Lists.{is_some}
-use Rattle.acsl_clauses.specs.Sorts.{Sorted, sorted_of, is_in}
+use Rattle.parse_clauses.specs.Sorts.{Sorted, sorted_of, is_in}
 use Rattle.acsl_parser.specs.Read as s
 use Rattle.acsl_parser.proofs.Separating.{separated_complete}
 use Rattle.acsl_parser.proofs.Repeating.{RepeatedAt, none, more, Repeats, repeat_complete}

@@ -12,14 +12,14 @@ use Rattle.c_grammar.specs.Lists.{Repeated}
 use Rattle.c_grammar.specs.Preds.{SpellsTyped, declared}
 use Rattle.c_grammar.specs.Annots as g
 use Rattle.c_grammar.specs.Reading.{◌>>=◌, punct_at, keyword_at}
-use Rattle.acsl_preds.specs.Read.{typed_at}
-use Rattle.acsl_clauses.specs.declared.items.Part.TheVariants as part
+use Rattle.parse_preds.specs.Read.{typed_at}
+use Rattle.parse_clauses.specs.declared.items.Part.TheVariants as part
 use Rattle.acsl_parser.specs.declared.words.EndWord.{EndWord}
 use Rattle.acsl_parser.specs.declared.words.EndWord.TheVariants as ew
 use Rattle.acsl_parser.specs.declared.words.LogicWord.{LogicWord}
 use Rattle.acsl_parser.specs.declared.words.LogicWord.TheVariants as gw
 use Rattle.acsl_parser.specs.Lists.{separated_at, worded, is_some}
-use Rattle.acsl_clauses.specs.Sorts.{Sorted, sorted_of, behavior_of, loop_made, contract_made}
+use Rattle.parse_clauses.specs.Sorts.{Sorted, sorted_of, behavior_of, loop_made, contract_made}
 use Rattle.acsl_parser.specs.Read as s
 use Rattle.acsl_parser.proofs.Separating.{separated_complete}
 use Rattle.acsl_parser.proofs.Repeating.{RepeatedAt, none, more, Repeats, goes_on, repeat_complete, repeat_starts}

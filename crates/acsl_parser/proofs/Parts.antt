@@ -6,9 +6,9 @@ use Rattle.c_syntax.specs.Pred as r
 use Rattle.c_grammar.specs.Tokens.{Names}
 use Rattle.c_grammar.specs.Preds.{SpellsPred, SpellsTyped}
 use Rattle.c_grammar.proofs.Readers.{Sound}
-use Rattle.acsl_preds.specs.Next.{ends_pred}
-use Rattle.acsl_preds.proofs.Laws as law
-use Rattle.acsl_preds.specs.Read.{pred_at, typed_at}
+use Rattle.parse_preds.specs.Next.{ends_pred}
+use Rattle.parse_preds.proofs.Laws as law
+use Rattle.parse_preds.specs.Read.{pred_at, typed_at}
 
 -- a predicate, whether it trails or not
 abbrev pub SomePred : Names → ℕ → List Token → r.Pred → Type 0

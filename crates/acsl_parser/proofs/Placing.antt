@@ -9,7 +9,7 @@ use Rattle.c_syntax.specs.declared.token.TokenKind.{TokenKind}
 use Rattle.c_syntax.specs.declared.token.TokenKind.TheVariants as k
 use Rattle.c_grammar.specs.declared.fault.Fault.{Fault}
 use Rattle.c_grammar.specs.declared.fault.Fault.TheVariants as fault
-use Rattle.c_types.specs.Clauses.{IsSpelled, IsRead, IsOnly}
+use Rattle.parse_types.specs.Clauses.{IsSpelled, IsRead, IsOnly}
 use Rattle.acsl_parser.specs.Spelled.{IsClosed}
 use Rattle.acsl_parser.specs.Places.{MayFollow, StandsAt, OnlyPart, RefusesAt, closes_by, is_closed, unspelled, placed, without_line}
 

@@ -7,7 +7,7 @@ use Rattle.c_grammar.specs.declared.fault.Fault.TheVariants.{Syntax, NoMemory}
 use Rattle.c_grammar.specs.Reading.{Reader}
 use Rattle.c_grammar.specs.Views.{Gives}
 use Rattle.c_grammar.proofs.Readers.{Took, pair_is}
-use Rattle.c_types.specs.Clauses.{IsSpelled, IsRead, IsOnly}
+use Rattle.parse_types.specs.Clauses.{IsSpelled, IsRead, IsOnly}
 
 pub spelled_here : {X Y : Type 0} (Spells : List Token → Y → Type 0) (see : X → Y) (read : Reader Y) (ts : List Token) → ((y : Y) (rest : List Token) → read ts ≡ Some (y, rest) → Took Spells ts y rest)
     → (r : Result (X × Bor (List Token)) Fault) → Gives see r (read ts) → IsSpelled Spells see ts r

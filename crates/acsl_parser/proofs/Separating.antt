@@ -6,7 +6,7 @@ use Rattle.c_grammar.specs.Tokens.{punct}
 use Rattle.c_grammar.specs.Lists as g
 use Rattle.c_grammar.specs.Reading.{Reader, ◌>>=◌, punct_at}
 use Rattle.c_grammar.proofs.Readers.{Sound, bind_ok, got, pair_is}
-use Rattle.c_types.proofs.Tokens.{punct_is}
+use Rattle.parse_types.proofs.Tokens.{punct_is}
 use Rattle.acsl_parser.specs.Lists.{separated_go, more_separated, separated_at}
 
 -- ---- what is read is spelled so

@@ -11,17 +11,17 @@ use Rattle.c_grammar.specs.Terms.{anywhere, SpellsTerm, SpellsEntry}
 use Rattle.c_grammar.specs.Annots as g
 use Rattle.c_grammar.specs.Reading.{Reader, ◌>>=◌, punct_at, word_at}
 use Rattle.c_grammar.proofs.Readers.{Took, Sound, bind_ok, guard_ok, got, pair_is}
-use Rattle.c_types.proofs.Tokens.{punct_is, word_is}
-use Rattle.acsl_terms.specs.Read.{term_at, entry_at}
-use Rattle.acsl_terms.proofs.Laws.{term_sound, entry_sound}
-use Rattle.acsl_preds.specs.Read.{pred_at}
-use Rattle.acsl_clauses.specs.declared.items.Part.{Part}
+use Rattle.parse_types.proofs.Tokens.{punct_is, word_is}
+use Rattle.parse_terms.specs.Read.{term_at, entry_at}
+use Rattle.parse_terms.proofs.Laws.{term_sound, entry_sound}
+use Rattle.parse_preds.specs.Read.{pred_at}
+use Rattle.parse_clauses.specs.declared.items.Part.{Part}
 use Rattle.acsl_parser.specs.declared.words.ClauseWord.{ClauseWord}
 use Rattle.acsl_parser.specs.declared.words.ClauseWord.TheVariants as cw
 use Rattle.acsl_parser.specs.declared.words.LoopWord.{LoopWord}
 use Rattle.acsl_parser.specs.declared.words.LoopWord.TheVariants as lw
 use Rattle.acsl_parser.specs.Lists.{worded}
-use Rattle.acsl_clauses.specs.Sorts.{Sorted, sorted_of, is_in}
+use Rattle.parse_clauses.specs.Sorts.{Sorted, sorted_of, is_in}
 use Rattle.acsl_parser.specs.Read as s
 use Rattle.acsl_parser.proofs.Separating.{separated_sound}
 use Rattle.acsl_parser.proofs.Repeating.{RepeatedAt, none, more, SoundAt, repeat_sound}

@@ -14,17 +14,17 @@ use Rattle.c_grammar.specs.Preds.{SpellsTyped}
 use Rattle.c_grammar.specs.Annots as g
 use Rattle.c_grammar.specs.Reading.{Reader, ◌>>=◌, punct_at, name_at, new_name_at, keyword_at}
 use Rattle.c_grammar.proofs.Readers.{Took, Sound, bind_ok, pair_is}
-use Rattle.c_types.proofs.Tokens.{punct_is, name_is, new_name_is}
-use Rattle.acsl_terms.specs.Read.{term_at}
-use Rattle.acsl_terms.proofs.Laws.{term_sound}
-use Rattle.acsl_preds.specs.Read.{pred_at, typed_at}
-use Rattle.acsl_clauses.specs.declared.items.Part.TheVariants as part
+use Rattle.parse_types.proofs.Tokens.{punct_is, name_is, new_name_is}
+use Rattle.parse_terms.specs.Read.{term_at}
+use Rattle.parse_terms.proofs.Laws.{term_sound}
+use Rattle.parse_preds.specs.Read.{pred_at, typed_at}
+use Rattle.parse_clauses.specs.declared.items.Part.TheVariants as part
 use Rattle.acsl_parser.specs.declared.words.EndWord.{EndWord}
 use Rattle.acsl_parser.specs.declared.words.EndWord.TheVariants as ew
 use Rattle.acsl_parser.specs.declared.words.LogicWord.{LogicWord}
 use Rattle.acsl_parser.specs.declared.words.LogicWord.TheVariants as gw
 use Rattle.acsl_parser.specs.Lists.{separated_at, worded, repeat}
-use Rattle.acsl_clauses.specs.Sorts.{Sorted, behavior_of, loop_made, contract_made}
+use Rattle.parse_clauses.specs.Sorts.{Sorted, behavior_of, loop_made, contract_made}
 use Rattle.acsl_parser.specs.Read as s
 use Rattle.acsl_parser.proofs.Separating.{separated_sound}
 use Rattle.acsl_parser.proofs.Repeating.{RepeatedAt, none, more, SoundAt, repeat_sound}

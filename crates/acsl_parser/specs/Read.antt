@@ -15,10 +15,10 @@ use Rattle.c_grammar.specs.Tokens.{Names, most_open}
 use Rattle.c_grammar.specs.Annots.{Item, requires_item, ensures_item, assumes_item, invariant_item, assigns_item, loop_assigns_item, decreases_item, variant_item, clause_at, measure_at, may_stand, Ending, complete_ending, disjoint_ending, behaviors_at}
 use Rattle.c_grammar.specs.Annots as g
 use Rattle.c_grammar.specs.Reading.{Reader, ◌>>=◌, punct_at, word_at, name_at, new_name_at, keyword_at}
-use Rattle.acsl_terms.specs.Read.{term_at, entry_at}
-use Rattle.acsl_preds.specs.Read.{pred_at, typed_at}
-use Rattle.acsl_clauses.specs.declared.items.Part.{Part}
-use Rattle.acsl_clauses.specs.declared.items.Part.TheVariants as part
+use Rattle.parse_terms.specs.Read.{term_at, entry_at}
+use Rattle.parse_preds.specs.Read.{pred_at, typed_at}
+use Rattle.parse_clauses.specs.declared.items.Part.{Part}
+use Rattle.parse_clauses.specs.declared.items.Part.TheVariants as part
 use Rattle.acsl_parser.specs.declared.words.ClauseWord.{ClauseWord}
 use Rattle.acsl_parser.specs.declared.words.ClauseWord.TheVariants as cw
 use Rattle.acsl_parser.specs.declared.words.LoopWord.{LoopWord}
@@ -28,7 +28,7 @@ use Rattle.acsl_parser.specs.declared.words.EndWord.TheVariants as ew
 use Rattle.acsl_parser.specs.declared.words.LogicWord.{LogicWord}
 use Rattle.acsl_parser.specs.declared.words.LogicWord.TheVariants as gw
 use Rattle.acsl_parser.specs.Lists.{separated_at, repeat, is_some, worded}
-use Rattle.acsl_clauses.specs.Sorts.{Sorted, sorted_of, is_in, behavior_of, loop_made, contract_made}
+use Rattle.parse_clauses.specs.Sorts.{Sorted, sorted_of, is_in, behavior_of, loop_made, contract_made}
 
 -- ---- the words that begin a part
 

@@ -3,11 +3,11 @@ ghost use Rattle.std.specs.Prelude.{◌≡◌, ◌≤◌, ◌-◌, IfOk, length,
 ghost use Rattle.c_syntax.specs.View.{view_behavior, view_contract, view_logic, view_loop};
 ghost use Rattle.c_grammar.specs.Views.{Gives};
 ghost use Rattle.c_grammar.specs.Annots.{SpellsContract, SpellsLogic, SpellsLoop};
-ghost use Rattle.c_types.specs.Clauses.{IsOnly, IsSpelled};
+ghost use Rattle.parse_types.specs.Clauses.{IsOnly, IsSpelled};
 ghost use Rattle.acsl_parser.specs.Read as spec;
 ghost use Rattle.acsl_parser.specs.Spelled.{IsClosed, SpellsAssertOn, SpellsLogics};
-ghost use Rattle.acsl_clauses.specs.Sorts.{contract_made, loop_made};
-ghost use Rattle.acsl_clauses.specs.Views.{view_sorted};
+ghost use Rattle.parse_clauses.specs.Sorts.{contract_made, loop_made};
+ghost use Rattle.parse_clauses.specs.Views.{view_sorted};
 ghost use Rattle.acsl_parser.specs.Views.{view_assert, view_ending};
 
 use crate::behaviors::{MOST_OPEN, behaviors_at};
@@ -15,9 +15,9 @@ use crate::clauses::pred_ended;
 use crate::endings::{Ending, endings_at, split_endings};
 use crate::logics::{read_logic, read_logics};
 use crate::part::part_at;
-use acsl_clauses::{Part, Sorted, first_assigns, first_measure};
 use c_grammar::{Fault, keyword_at};
 use c_syntax::{Behavior, Contract, LogicDecl, LoopAnnot, Pred, Token};
+use parse_clauses::{Part, Sorted, first_assigns, first_measure};
 use std::alloc::Global;
 use wp_base::{Line, List, NoMemory, Str};
 

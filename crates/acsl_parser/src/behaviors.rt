@@ -3,14 +3,14 @@ ghost use Rattle.std.specs.Prelude.{◌≡◌, ◌-◌, map};
 ghost use Rattle.c_syntax.specs.View.{view_behavior};
 ghost use Rattle.c_grammar.specs.Views.{Gives};
 ghost use Rattle.acsl_parser.specs.Read as spec;
-ghost use Rattle.acsl_clauses.specs.Sorts.{behavior_of};
-ghost use Rattle.acsl_clauses.specs.Views.{view_sorted};
+ghost use Rattle.parse_clauses.specs.Sorts.{behavior_of};
+ghost use Rattle.parse_clauses.specs.Views.{view_sorted};
 
 use crate::part::part_at;
 use crate::words::{place_of, starts_behavior};
-use acsl_clauses::{Part, Sorted, first_assigns};
 use c_grammar::{Fault, expect, keyword_at, new_name_at};
 use c_syntax::{Behavior, Punct, Token};
+use parse_clauses::{Part, Sorted, first_assigns};
 use std::alloc::Global;
 use wp_base::{Line, List, Str};
 

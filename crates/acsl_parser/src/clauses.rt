@@ -2,14 +2,14 @@
 ghost use Rattle.std.specs.Prelude.{◌≤◌, ◌-◌, length, map};
 ghost use Rattle.c_syntax.specs.View.{view_assigns, view_pred, view_term};
 ghost use Rattle.c_grammar.specs.Views.{Gives};
-ghost use Rattle.acsl_terms.specs.Read.{entry_at as entry_of};
+ghost use Rattle.parse_terms.specs.Read.{entry_at as entry_of};
 ghost use Rattle.acsl_parser.specs.Lists.{more_separated, separated_at, with_items};
 ghost use Rattle.acsl_parser.specs.Read as spec;
 
-use acsl_preds::pred_at;
-use acsl_terms::{entry_at, term_at};
 use c_grammar::{Fault, expect, punct_at, word_at};
 use c_syntax::{AssignsClause, Pred, Punct, Term, Token, Word};
+use parse_preds::pred_at;
+use parse_terms::{entry_at, term_at};
 use std::alloc::Global;
 use wp_base::{Line, List, Str};
 

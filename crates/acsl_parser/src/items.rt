@@ -2,13 +2,13 @@
 ghost use Rattle.std.specs.Prelude.{◌≡◌, ◌≤◌, ◌-◌, map};
 ghost use Rattle.c_grammar.specs.Views.{Gives};
 ghost use Rattle.acsl_parser.specs.Read as spec;
-ghost use Rattle.acsl_clauses.specs.Views.{view_item};
+ghost use Rattle.parse_clauses.specs.Views.{view_item};
 
 use crate::clauses::{assigns_at, pred_ended, term_ended};
 use crate::words::{ClauseWord, LoopWord, clause_word_at, loop_word_at, place_of, starts_item};
-use acsl_clauses::Item;
 use c_grammar::Fault;
 use c_syntax::{Clause, Measure, Pred, Term, Token};
+use parse_clauses::Item;
 use std::alloc::Global;
 use wp_base::{Line, List, Str};
 

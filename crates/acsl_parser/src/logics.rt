@@ -2,16 +2,16 @@
 ghost use Rattle.std.specs.Prelude.{◌≡◌, map, length};
 ghost use Rattle.c_syntax.specs.View.{view_logic, view_var};
 ghost use Rattle.c_grammar.specs.Views.{Gives};
-ghost use Rattle.acsl_preds.specs.Read.{typed_at as typed_of};
+ghost use Rattle.parse_preds.specs.Read.{typed_at as typed_of};
 ghost use Rattle.acsl_parser.specs.Lists.{more_separated, separated_at, with_items};
 ghost use Rattle.acsl_parser.specs.Read as spec;
 
 use crate::behaviors::MOST_OPEN;
 use crate::clauses::{pred_ended, term_ended};
 use crate::words::{LogicWord, logic_word_at, starts_logic};
-use acsl_preds::typed_at;
 use c_grammar::{Fault, expect, new_name_at, punct_at};
 use c_syntax::{LogicBody, LogicDecl, Punct, Token, VarDecl};
+use parse_preds::typed_at;
 use std::alloc::Global;
 use wp_base::{List, Str};
 

@@ -1,13 +1,13 @@
 // Clauses that stand together (ACSL 2.3, 2.4.2, 2.5).
 ghost use Rattle.std.specs.Prelude.{◌≤◌};
 ghost use Rattle.c_grammar.specs.Views.{Gives};
-ghost use Rattle.acsl_clauses.specs.Views.{view_sorted};
+ghost use Rattle.parse_clauses.specs.Views.{view_sorted};
 ghost use Rattle.acsl_parser.specs.Read as spec;
 
 use crate::items::items_at;
-use acsl_clauses::{Part, Sorted, are_in, are_single, sort};
 use c_grammar::Fault;
 use c_syntax::Token;
+use parse_clauses::{Part, Sorted, are_in, are_single, sort};
 use std::alloc::Global;
 use wp_base::Str;
 

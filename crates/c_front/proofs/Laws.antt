@@ -11,7 +11,7 @@ use Rattle.c_lexer.specs.Tokens.{tokens_of, StopsWith}
 use Rattle.c_grammar.specs.Decls.{past_limit, SpellsLines, IsUnspelledOn}
 use Rattle.c_parser.specs.Outcome.{SpellsWithin, SpellsPast, Refuses}
 use Rattle.c_parser.proofs.Exact.{one_program}
-use Rattle.c_file.proofs.Parts.{parts}
+use Rattle.parse_file.proofs.Parts.{parts}
 use Rattle.core_prog.specs.Tree as t
 use Rattle.core_prog.specs.Names.{is_well_named_program}
 use Rattle.c_core.specs.Core.{core_of}

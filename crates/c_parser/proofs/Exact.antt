@@ -10,12 +10,12 @@ use Rattle.c_syntax.specs.Decl as d
 use Rattle.c_syntax.specs.View.{view_program}
 use Rattle.c_grammar.specs.Tokens.{Names}
 use Rattle.c_grammar.specs.Decls.{Lines, past_limit, SpellsDecls, SpellsLines, IsUnspelledOn}
-use Rattle.c_file.specs.Read as r
-use Rattle.c_file.specs.Read.{Found, Front}
+use Rattle.parse_file.specs.Read as r
+use Rattle.parse_file.specs.Read.{Found, Front}
 use Rattle.c_parser.specs.Outcome.{Outcome, parsed, unspelled, past, outcome, outcome_by, within_limits, refusal_of, Answers, SpellsWithin, SpellsPast, SpellsNone, Refuses, OnlyParsed, OnlyRefused}
-use Rattle.c_file.proofs.Parts.{Parts}
-use Rattle.c_file.proofs.Sound.{decl_sound, front_sound}
-use Rattle.c_file.proofs.Complete.{read_so, decl_some, decls_complete}
+use Rattle.parse_file.proofs.Parts.{Parts}
+use Rattle.parse_file.proofs.Sound.{decl_sound, front_sound}
+use Rattle.parse_file.proofs.Complete.{read_so, decl_some, decls_complete}
 
 -- ---- the front that is read
 

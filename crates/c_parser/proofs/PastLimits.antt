@@ -3,9 +3,9 @@ use Rattle.std.proofs.Common.{◌≡◌, ℕ, suc, ◌+◌, ◌≤◌, ◌<◌, 
 use Rattle.std.proofs.lemmas.Bool.Decides.{nat_tests}
 use Rattle.std.specs.Prelude.{nat_le, slice_get}
 use Rattle.c_grammar.specs.Decls.{past_limit, or_else, most_params, most_stmts}
-use Rattle.c_file.specs.declared.found.Lines.{Lines}
+use Rattle.parse_file.specs.declared.found.Lines.{Lines}
 use Rattle.c_parser.specs.Outcome.{line_within}
-use Rattle.c_file.specs.Views.{view_lines}
+use Rattle.parse_file.specs.Views.{view_lines}
 
 or_else_group : (a b c : Option ℕ) → or_else (or_else a b) c ≡ or_else a (or_else b c)
 or_else_group None b c = refl

@@ -9,7 +9,7 @@ use Rattle.c_syntax.specs.declared.decl.Program.{Program}
 use Rattle.c_syntax.specs.Decl as d
 use Rattle.c_syntax.specs.View.{view_program}
 use Rattle.c_grammar.specs.Decls.{Lines, past_limit, or_else, most_params, most_stmts, SpellsLines, IsUnspelledOn}
-use Rattle.c_file.specs.Read.{Front, file_front}
+use Rattle.parse_file.specs.Read.{Front, file_front}
 
 pub data Outcome : Type 0 where
   parsed : (p : d.Program) → Outcome

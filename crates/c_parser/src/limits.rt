@@ -2,9 +2,9 @@
 ghost use Rattle.std.specs.Prelude.{◌≡◌, map};
 ghost use Rattle.c_grammar.specs.Decls.{past_limit as line_past_limit};
 ghost use Rattle.c_parser.specs.Outcome.{line_within};
-ghost use Rattle.c_file.specs.Views.{view_lines};
+ghost use Rattle.parse_file.specs.Views.{view_lines};
 
-use c_file::Lines;
+use parse_file::Lines;
 use wp_base::Line;
 
 // The line of the first parameter, or else of the first statement, that is one too many.

@@ -2,14 +2,14 @@
 ghost use Rattle.std.specs.Prelude.{◌≡◌, ℕ, List, IfOk};
 ghost use Rattle.c_grammar.specs.Decls.{Lines as g_lines, SpellsLines};
 ghost use Rattle.c_parser.specs.Outcome.{Answers, OnlyParsed, OnlyRefused, Refuses, SpellsPast, SpellsWithin, outcome, outcome_by};
-ghost use Rattle.c_file.specs.Views.{view_front};
+ghost use Rattle.parse_file.specs.Views.{view_front};
 ghost use Rattle.c_syntax.specs.Decl as d;
 ghost use Rattle.c_syntax.specs.declared.token.Token.{Token};
 ghost use Rattle.c_syntax.specs.View.{view_program};
 
 use crate::limits::past_limit;
-use c_file::{Front, file_front};
 use c_syntax::{Program, Tokens};
+use parse_file::{Front, file_front};
 use std::alloc::Global;
 use wp_base::{Line, Refusal, Rule, Stop};
 

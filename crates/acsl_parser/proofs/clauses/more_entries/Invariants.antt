@@ -1,6 +1,6 @@
 use Rattle.std.proofs.Common.{◌≡◌, ◌-◌, map}
 use Rattle.c_syntax.specs.View.{view_term}
-use Rattle.acsl_terms.specs.Read.{entry_at}
+use Rattle.parse_terms.specs.Read.{entry_at}
 use Rattle.acsl_parser.specs.Lists.{more_separated, with_items}
 use Rattle.acsl_parser.proofs.clauses.more_entries.Given as goal
 

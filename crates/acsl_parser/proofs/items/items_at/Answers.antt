@@ -1,6 +1,6 @@
 use Rattle.std.proofs.Common.{arith, ◌∙◌, ◌-◌, ◌+◌, length, map, sym}
 use Rattle.std.proofs.lemmas.Result.{err_from_is_err_and}
-use Rattle.acsl_clauses.specs.Views.{view_item}
+use Rattle.parse_clauses.specs.Views.{view_item}
 use Rattle.acsl_parser.specs.Read.{starts_item, item_at}
 use Rattle.acsl_parser.proofs.Reading.{all_end, all_stop, all_next, all_fault, items_all}
 use Rattle.acsl_parser.proofs.items.items_at.Goals as goal

@@ -1,5 +1,5 @@
 use Rattle.std.proofs.Common.{◌≡◌, ◌-◌, map}
-use Rattle.acsl_clauses.specs.Views.{view_item}
+use Rattle.parse_clauses.specs.Views.{view_item}
 use Rattle.acsl_parser.specs.Lists.{repeat, with_items}
 use Rattle.acsl_parser.specs.Read.{starts_item, item_at}
 use Rattle.acsl_parser.proofs.items.items_at.Given as goal

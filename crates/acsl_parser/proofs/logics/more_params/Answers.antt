@@ -1,7 +1,7 @@
 use Rattle.std.proofs.Common.{arith, ◌∙◌, ◌-◌, ◌+◌, length, map, sym}
 use Rattle.std.proofs.lemmas.Result.{err_from_is_err_and}
 use Rattle.c_syntax.specs.View.{view_var}
-use Rattle.acsl_preds.specs.Read.{typed_at}
+use Rattle.parse_preds.specs.Read.{typed_at}
 use Rattle.acsl_parser.proofs.Reading.{items_end, items_stop, items_next, items_fault}
 use Rattle.acsl_parser.proofs.logics.more_params.Goals as goal
 

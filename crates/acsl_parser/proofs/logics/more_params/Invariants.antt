@@ -1,6 +1,6 @@
 use Rattle.std.proofs.Common.{◌≡◌, ◌-◌, map}
 use Rattle.c_syntax.specs.View.{view_var}
-use Rattle.acsl_preds.specs.Read.{typed_at}
+use Rattle.parse_preds.specs.Read.{typed_at}
 use Rattle.acsl_parser.specs.Lists.{more_separated, with_items}
 use Rattle.acsl_parser.proofs.logics.more_params.Given as goal
 

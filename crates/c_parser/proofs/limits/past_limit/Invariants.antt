@@ -1,6 +1,6 @@
 use Rattle.std.proofs.Common.{◌≡◌, ◌+◌, length, map}
 use Rattle.c_grammar.specs.Decls.{past_limit}
-use Rattle.c_file.specs.Views.{view_lines}
+use Rattle.parse_file.specs.Views.{view_lines}
 use Rattle.c_parser.proofs.limits.past_limit.Given as goal
 
 -- what is left tells as much, with the functions before it counted

@@ -1,5 +1,5 @@
 use Rattle.c_parser.proofs.Exact.{one_program}
-use Rattle.c_file.proofs.Parts.{parts}
+use Rattle.parse_file.proofs.Parts.{parts}
 use Rattle.c_parser.proofs.parser.one_program.Goals as goal
 
 pub returns : goal.returns

@@ -1,5 +1,5 @@
 use Rattle.c_parser.proofs.Exact.{spelled_clause, refusal_clause, only_parsed, only_past}
-use Rattle.c_file.proofs.Parts.{parts}
+use Rattle.parse_file.proofs.Parts.{parts}
 use Rattle.c_parser.proofs.parser.parse.Goals as goal
 
 pub returns-clause-spelled : goal.returns-clause-spelled

@@ -1,6 +1,6 @@
 use Rattle.std.proofs.Common.{ap, ◌∙◌, subst}
 use Rattle.c_parser.specs.Outcome.{Answers, outcome}
-use Rattle.c_file.specs.Views.{view_front}
+use Rattle.parse_file.specs.Views.{view_front}
 use Rattle.c_parser.proofs.Reading.{outcome_is}
 use Rattle.c_parser.proofs.parser.read_file.Goals as goal
 

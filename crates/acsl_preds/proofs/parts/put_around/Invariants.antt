@@ -1,7 +1,0 @@
-use Rattle.std.proofs.Common.{◌≡◌}
-use Rattle.c_syntax.specs.View.{view_pred}
-use Rattle.acsl_preds.specs.Parts.{around}
-use Rattle.acsl_preds.proofs.parts.put_around.Given as goal
-
-abbrev pub invariant-loop-frame : goal.invariant-loop-frame
-invariant-loop-frame l = view_pred l.inside ≡ around l.yielded (view_pred l.initial.inside)

@@ -1,0 +1,171 @@
+// Operators at the front of a list of tokens (C11 6.5).
+ghost use Rattle.std.specs.Prelude.{◌≡◌};
+ghost use Rattle.parse_exprs.specs.Operators as spec;
+ghost use Rattle.c_grammar.specs.Operators as table;
+ghost use Rattle.c_grammar.specs.Views.{Finds};
+
+use c_syntax::{BinOp, Punct, Token, TokenKind, UnOp};
+use wp_base::Line;
+
+// What stands before an operand.
+#[derive(Clone, Copy)]
+pub(crate) enum Prefix {
+    Operator(UnOp),
+    // `++` or `--`, and whether it counts up
+    Step(bool),
+}
+
+// What stands behind an operand.
+#[derive(Clone, Copy)]
+pub(crate) enum Suffix {
+    Index,
+    // `.` or `->`, and whether it is the arrow
+    Field(bool),
+    // `++` or `--`, and whether it counts up
+    Step(bool),
+}
+
+fn binop_of(punct: Punct) -> Option<BinOp>
+    ensures { result ≡ table.binop_of punct }
+{
+    match punct {
+        Punct::Star => Some(BinOp::Mul),
+        Punct::Slash => Some(BinOp::Div),
+        Punct::Percent => Some(BinOp::Rem),
+        Punct::Plus => Some(BinOp::Add),
+        Punct::Minus => Some(BinOp::Sub),
+        Punct::Shl => Some(BinOp::Shl),
+        Punct::Shr => Some(BinOp::Shr),
+        Punct::Less => Some(BinOp::Less),
+        Punct::AtMost => Some(BinOp::AtMost),
+        Punct::Greater => Some(BinOp::Greater),
+        Punct::AtLeast => Some(BinOp::AtLeast),
+        Punct::Equal => Some(BinOp::Equal),
+        Punct::NotEqual => Some(BinOp::NotEqual),
+        Punct::Amp => Some(BinOp::BitAnd),
+        Punct::Caret => Some(BinOp::BitXor),
+        Punct::Bar => Some(BinOp::BitOr),
+        Punct::And => Some(BinOp::And),
+        Punct::Or => Some(BinOp::Or),
+        _ => None,
+    }
+}
+
+fn level_of(op: BinOp) -> u32
+    ensures { result ≡ table.level op }
+{
+    match op {
+        BinOp::Mul | BinOp::Div | BinOp::Rem => 1,
+        BinOp::Add | BinOp::Sub => 2,
+        BinOp::Shl | BinOp::Shr => 3,
+        BinOp::Less | BinOp::AtMost | BinOp::Greater | BinOp::AtLeast => 4,
+        BinOp::Equal | BinOp::NotEqual => 5,
+        BinOp::BitAnd => 6,
+        BinOp::BitXor => 7,
+        BinOp::BitOr => 8,
+        BinOp::And => 9,
+        BinOp::Or => 10,
+    }
+}
+
+fn assign_of(punct: Punct) -> Option<Option<BinOp>>
+    ensures { result ≡ table.assign_of punct }
+{
+    match punct {
+        Punct::Assign => Some(None),
+        Punct::MulAssign => Some(Some(BinOp::Mul)),
+        Punct::DivAssign => Some(Some(BinOp::Div)),
+        Punct::RemAssign => Some(Some(BinOp::Rem)),
+        Punct::AddAssign => Some(Some(BinOp::Add)),
+        Punct::SubAssign => Some(Some(BinOp::Sub)),
+        Punct::ShlAssign => Some(Some(BinOp::Shl)),
+        Punct::ShrAssign => Some(Some(BinOp::Shr)),
+        Punct::BitAndAssign => Some(Some(BinOp::BitAnd)),
+        Punct::BitXorAssign => Some(Some(BinOp::BitXor)),
+        Punct::BitOrAssign => Some(Some(BinOp::BitOr)),
+        _ => None,
+    }
+}
+
+fn prefix_of(punct: Punct) -> Option<Prefix>
+    ensures { result ≡ spec.prefix_of punct }
+{
+    match punct {
+        Punct::Amp => Some(Prefix::Operator(UnOp::AddressOf)),
+        Punct::Star => Some(Prefix::Operator(UnOp::Deref)),
+        Punct::Plus => Some(Prefix::Operator(UnOp::Plus)),
+        Punct::Minus => Some(Prefix::Operator(UnOp::Minus)),
+        Punct::Tilde => Some(Prefix::Operator(UnOp::BitNot)),
+        Punct::Not => Some(Prefix::Operator(UnOp::Not)),
+        Punct::Increment => Some(Prefix::Step(true)),
+        Punct::Decrement => Some(Prefix::Step(false)),
+        _ => None,
+    }
+}
+
+fn suffix_of(punct: Punct) -> Option<Suffix>
+    ensures { result ≡ spec.suffix_of punct }
+{
+    match punct {
+        Punct::OpenBracket => Some(Suffix::Index),
+        Punct::Dot => Some(Suffix::Field(false)),
+        Punct::Arrow => Some(Suffix::Field(true)),
+        Punct::Increment => Some(Suffix::Step(true)),
+        Punct::Decrement => Some(Suffix::Step(false)),
+        _ => None,
+    }
+}
+
+// An operator of two operands, of this level.
+#[tactic(auto, unfolding(crate::specs::Operators::operator))]
+pub(crate) fn operator(level: u32, tokens: &[Token]) -> Option<((BinOp, Line), &[Token])>
+    ensures { Finds (λ x. x) result (spec.operator level tokens.now) }
+{
+    let (first, rest) = tokens.split_first()?;
+    let TokenKind::Punct(punct) = first.kind else {
+        return None;
+    };
+    let op = binop_of(punct)?;
+    if level_of(op) == level {
+        Some(((op, first.line), rest))
+    } else {
+        None
+    }
+}
+
+// An operator of assignment: none for `=`, else that of a compound one.
+#[tactic(auto, unfolding(crate::specs::Operators::assign_at))]
+pub(crate) fn assign_at(tokens: &[Token]) -> Option<((Option<BinOp>, Line), &[Token])>
+    ensures { Finds (λ x. x) result (spec.assign_at tokens.now) }
+{
+    let (first, rest) = tokens.split_first()?;
+    let TokenKind::Punct(punct) = first.kind else {
+        return None;
+    };
+    let op = assign_of(punct)?;
+    Some(((op, first.line), rest))
+}
+
+#[tactic(auto, unfolding(crate::specs::Operators::prefix_at))]
+pub(crate) fn prefix_at(tokens: &[Token]) -> Option<((Prefix, Line), &[Token])>
+    ensures { Finds (λ x. x) result (spec.prefix_at tokens.now) }
+{
+    let (first, rest) = tokens.split_first()?;
+    let TokenKind::Punct(punct) = first.kind else {
+        return None;
+    };
+    let prefix = prefix_of(punct)?;
+    Some(((prefix, first.line), rest))
+}
+
+#[tactic(auto, unfolding(crate::specs::Operators::suffix_at))]
+pub(crate) fn suffix_at(tokens: &[Token]) -> Option<((Suffix, Line), &[Token])>
+    ensures { Finds (λ x. x) result (spec.suffix_at tokens.now) }
+{
+    let (first, rest) = tokens.split_first()?;
+    let TokenKind::Punct(punct) = first.kind else {
+        return None;
+    };
+    let suffix = suffix_of(punct)?;
+    Some(((suffix, first.line), rest))
+}

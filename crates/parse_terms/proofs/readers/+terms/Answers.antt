@@ -1,0 +1,83 @@
+use Rattle.std.proofs.Common.{arith, ◌∙◌, ◌-◌, ◌+◌, ◌∷◌, [], length, map, sym, ap}
+use Rattle.std.proofs.lemmas.List.{map-append}
+use Rattle.std.proofs.lemmas.Result.{err_from_is_err_and}
+use Rattle.c_syntax.specs.View.{view_term}
+use Rattle.c_grammar.specs.Reading.{levels}
+use Rattle.c_grammar.specs.Terms.{inside_of}
+use Rattle.parse_terms.specs.Read as r
+use Rattle.parse_terms.specs.Views.{view_place, with_items}
+use Rattle.parse_terms.proofs.Reading.{chain_fault, chain_turn, choice_fault, parts_fault, parts_turn, terms_end, terms_stop, terms_turn, terms_fault}
+use Rattle.parse_terms.proofs.readers.+terms.Goals as goal
+
+pub operators-returns-in_err-right : goal.operators-returns-in_err-right
+operators-returns-in_err-right t c =
+    let p = err_from_is_err_and c.from_residual.result c.from_residual.ensures.1 in
+    let left = length c.args.tokens.now - c.loop-turn.turn in
+    let operand = levels r.joined r.operator (c.args.level - 1) (r.read c.args.types.now c.args.room r.operands (view_place c.args.place)) in
+    rw (p.1, p.2, ← c.loop-turn.invariant)
+    (chain_fault view_term r.joined (r.operator c.args.level) left (left - 1) operand (view_term c.loop-turn.left) c.loop-turn.rest.now
+    c.in-Some.op c.in-Some.line c.in-Some.after.now _ (omega arith) c.in-Some.ensures c.in_err-right.ensures)
+
+pub operators-loop-turn-preserved : goal.operators-loop-turn-preserved
+operators-loop-turn-preserved t c =
+    let left = length c.args.tokens.now - c.loop-turn.turn in
+    let later = length c.args.tokens.now - (c.loop-turn.turn + 1) in
+    let operand = levels r.joined r.operator (c.args.level - 1) (r.read c.args.types.now c.args.room r.operands (view_place c.args.place)) in
+    chain_turn r.joined (r.operator c.args.level) left later operand (view_term c.loop-turn.left) (view_term c.in_ok-right.right) (view_term c.in_ok-left.left) c.loop-turn.rest.now
+    c.in-Some.op c.in-Some.line c.in-Some.after.now c.in_ok-right.after.now (omega arith) c.in-Some.ensures c.in_ok-right.ensures c.in_ok-left.ensures
+    ∙ c.loop-turn.invariant
+
+pub parts-returns-in_err-next : goal.parts-returns-in_err-next
+parts-returns-in_err-next t c =
+    let p = err_from_is_err_and c.from_residual.result c.from_residual.ensures.1 in
+    let left = length c.args.tokens.now - c.loop-turn.turn in
+    let inner = r.inner c.args.types.now c.args.room r.wholes (inside_of (view_place c.args.place)) in
+    rw (p.1, p.2, ← c.loop-turn.invariant)
+    (parts_fault view_term (view_place c.args.place) inner left (left - 1) (view_term c.loop-turn.part) c.loop-turn.rest.now
+    c.in-Some.selector c.in-Some.line c.in-Some.after.now _ (omega arith) c.in-Some.ensures c.in_err-next.ensures)
+
+pub parts-loop-turn-preserved : goal.parts-loop-turn-preserved
+parts-loop-turn-preserved t c =
+    let left = length c.args.tokens.now - c.loop-turn.turn in
+    let later = length c.args.tokens.now - (c.loop-turn.turn + 1) in
+    let inner = r.inner c.args.types.now c.args.room r.wholes (inside_of (view_place c.args.place)) in
+    parts_turn (view_place c.args.place) inner left later (view_term c.loop-turn.part) (view_term c.in_ok-next.next) c.loop-turn.rest.now
+    c.in-Some.selector c.in-Some.line c.in-Some.after.now c.in_ok-next.after.now (omega arith) c.in-Some.ensures c.in_ok-next.ensures
+    ∙ c.loop-turn.invariant
+
+pub more_terms-returns-in_default : goal.more_terms-returns-in_default
+more_terms-returns-in_default t c =
+    let one = r.read c.args.types.now c.args.room r.wholes (view_place c.args.place) in
+    sym c.loop-turn.invariant ∙ terms_stop one (length c.args.tokens.now - c.loop-turn.turn) (map view_term c.loop-turn.terms) c.loop-turn.rest.now c.in_default.ensures
+
+pub more_terms-returns-in_err-item : goal.more_terms-returns-in_err-item
+more_terms-returns-in_err-item t c =
+    let p = err_from_is_err_and c.from_residual.result c.from_residual.ensures.1 in
+    let left = length c.args.tokens.now - c.loop-turn.turn in
+    let one = r.read c.args.types.now c.args.room r.wholes (view_place c.args.place) in
+    rw (p.1, p.2, ← c.loop-turn.invariant)
+    (terms_fault view_term (map view_term) one left (left - 1) _ (map view_term c.loop-turn.terms) c.loop-turn.rest.now c.in-Some.after.now _ (omega arith) c.in-Some.ensures c.in_err-item.ensures)
+
+pub more_terms-loop-turn-preserved : goal.more_terms-loop-turn-preserved
+more_terms-loop-turn-preserved t c =
+    let left = length c.args.tokens.now - c.loop-turn.turn in
+    let later = length c.args.tokens.now - (c.loop-turn.turn + 1) in
+    let one = r.read c.args.types.now c.args.room r.wholes (view_place c.args.place) in
+    let item = c.in_ok-item.item in
+    let pushed = ap (map view_term) c.in_ok-push.ensures.ok ∙ map-append view_term c.loop-turn.terms (item ∷ []) in
+    ap (λ as'. with_items as' (r.more_terms one later c.in_ok-item.after.now)) pushed
+    ∙ terms_turn one left later _ (map view_term c.loop-turn.terms) (view_term item) c.loop-turn.rest.now c.in-Some.after.now c.in_ok-item.after.now (omega arith) c.in-Some.ensures c.in_ok-item.ensures
+    ∙ c.loop-turn.invariant
+
+pub more_terms-returns : goal.more_terms-returns
+more_terms-returns t c =
+    let one = r.read c.args.types.now c.args.room r.wholes (view_place c.args.place) in
+    sym c.loop-turn.invariant ∙ terms_end one (length c.args.tokens.now - c.loop-turn.turn) (map view_term c.loop-turn.terms) c.loop-turn.rest.now (omega arith)
+
+pub choice-returns-in_err-second : goal.choice-returns-in_err-second
+choice-returns-in_err-second t c =
+    let p = err_from_is_err_and c.from_residual-in_err-second.result c.from_residual-in_err-second.ensures.1 in
+    let inner = r.inner c.args.types.now c.args.room r.wholes (view_place c.args.place) in
+    rw (p.1, p.2)
+    (choice_fault view_term inner (view_term c.args.test) c.args.line _ (view_term c.in_ok-first.first) c.args.tokens.now c.in_ok-first.rest.now _ _
+    c.in_ok-first.ensures c.in_ok-rest.ensures c.in_err-second.ensures)

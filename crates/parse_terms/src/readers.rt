@@ -1,0 +1,580 @@
+// Terms: operands, operators, and what stands in brackets (ACSL 2.2).
+ghost use Rattle.std.specs.Prelude.{◌≡◌, ◌≤◌, ◌-◌, length, map};
+ghost use Rattle.c_grammar.specs.Reading.{chain, levels, punct_at};
+ghost use Rattle.c_grammar.specs.Terms.{inside_of};
+ghost use Rattle.c_grammar.specs.Views.{Gives};
+ghost use Rattle.c_syntax.specs.View.{view_term};
+ghost use Rattle.parse_terms.specs.Read as spec;
+ghost use Rattle.parse_terms.specs.Views.{view_place, with_items};
+
+use crate::nodes;
+use crate::place::Place;
+use crate::tokens::{Selector, cast_at, operator, prefix_at, range_at, selector_at};
+use c_grammar::{Fault, expect, is_type, name_at, punct_at};
+use c_syntax::{BinOp, Punct, Term, TermNode, Token, TokenKind, UnOp, Word};
+use parse_types::type_name_at;
+use std::alloc::Global;
+use wp_base::{Line, List, Str};
+
+// The loosest level of the operators.
+const LOOSEST: u32 = 10;
+
+// A term in a form that opens here.
+#[cycle(terms)]
+#[tactic(auto, using(crate::proofs::Reading::inner_none, crate::proofs::Reading::inner_some))]
+fn inner_term<'a>(
+    alloc: Global,
+    types: &[Str],
+    place: Place,
+    room: u32,
+    tokens: &'a [Token],
+) -> Result<(Term, &'a [Token]), Fault>
+    ensures { Gives view_term result (spec.inner types.now room spec.wholes (view_place place) tokens.now) }
+{
+    if room == 0 {
+        return Err(Fault::Syntax);
+    }
+    term(alloc, types, place, room - 1, tokens)
+}
+
+// An operand in a form that opens here.
+#[cycle(terms)]
+#[tactic(auto, using(crate::proofs::Reading::inner_none, crate::proofs::Reading::inner_some))]
+fn inner_operand<'a>(
+    alloc: Global,
+    types: &[Str],
+    place: Place,
+    room: u32,
+    tokens: &'a [Token],
+) -> Result<(Term, &'a [Token]), Fault>
+    ensures { Gives view_term result (spec.inner types.now room spec.operands (view_place place) tokens.now) }
+{
+    if room == 0 {
+        return Err(Fault::Syntax);
+    }
+    operand(alloc, types, place, room - 1, tokens)
+}
+
+// What parentheses that open here enclose.
+#[cycle(terms)]
+#[tactic(auto, using(crate::proofs::Reading::inner_none, crate::proofs::Reading::inner_some, crate::proofs::Reading::group_is))]
+fn inner_group<'a>(
+    alloc: Global,
+    types: &[Str],
+    place: Place,
+    room: u32,
+    tokens: &'a [Token],
+) -> Result<(Term, &'a [Token]), Fault>
+    ensures { Gives view_term result (spec.inner types.now room spec.groups (view_place place) tokens.now) }
+{
+    if room == 0 {
+        return Err(Fault::Syntax);
+    }
+    match place {
+        Place::Anywhere | Place::InChain => term(alloc, types, place, room - 1, tokens),
+        Place::InSet => spread_term(alloc, types, place, room - 1, tokens),
+    }
+}
+
+/// A term, and perhaps a range of offsets from it.
+#[cycle(terms)]
+pub fn spread_term<'a>(
+    alloc: Global,
+    types: &[Str],
+    place: Place,
+    room: u32,
+    tokens: &'a [Token],
+) -> Result<(Term, &'a [Token]), Fault>
+    ensures { Gives view_term result (spec.spread_term (spec.read types.now room spec.wholes (view_place place)) (spec.inner types.now room spec.wholes (inside_of (view_place place))) tokens.now) }
+{
+    let (base, rest) = term(alloc, types, place, room, tokens)?;
+    match punct_at(Punct::Plus, rest) {
+        Some((line, rest)) => spread(alloc, types, place, room, base, line, rest),
+        None => Ok((base, rest)),
+    }
+}
+
+// What comes after the `+` before a range.
+#[cycle(terms)]
+fn spread<'a>(
+    alloc: Global,
+    types: &[Str],
+    place: Place,
+    room: u32,
+    base: Term,
+    line: Line,
+    tokens: &'a [Token],
+) -> Result<(Term, &'a [Token]), Fault>
+    ensures { Gives view_term result (spec.spread (spec.inner types.now room spec.wholes (inside_of (view_place place))) (view_term base) line tokens.now) }
+{
+    let (offsets, rest) = bounds(alloc, types, place.inside(), room, tokens)?;
+    let sum = nodes::binary(alloc, BinOp::Add, line, base, offsets)?;
+    Ok((sum, rest))
+}
+
+// A range in parentheses.
+#[cycle(terms)]
+fn bounds<'a>(
+    alloc: Global,
+    types: &[Str],
+    place: Place,
+    room: u32,
+    tokens: &'a [Token],
+) -> Result<(Term, &'a [Token]), Fault>
+    ensures { Gives view_term result (spec.bounds (spec.inner types.now room spec.wholes (view_place place)) tokens.now) }
+{
+    let (_, rest) = expect(Punct::OpenParen, tokens)?;
+    let (low, rest) = inner_term(alloc, types, place, room, rest)?;
+    let (line, rest) = expect(Punct::Range, rest)?;
+    let (high, rest) = inner_term(alloc, types, place, room, rest)?;
+    let range = nodes::range(alloc, line, low, high)?;
+    let (_, rest) = expect(Punct::CloseParen, rest)?;
+    Ok((range, rest))
+}
+
+/// A whole term.
+#[cycle(terms)]
+#[tactic(auto, using(crate::proofs::Reading::term_is))]
+pub fn term<'a>(
+    alloc: Global,
+    types: &[Str],
+    place: Place,
+    room: u32,
+    tokens: &'a [Token],
+) -> Result<(Term, &'a [Token]), Fault>
+    ensures { Gives view_term result (spec.read types.now room spec.wholes (view_place place) tokens.now) }
+{
+    let (test, rest) = binary(alloc, types, place, room, LOOSEST, tokens)?;
+    match punct_at(Punct::Question, rest) {
+        Some((line, rest)) => choice(alloc, types, place, room, test, line, rest),
+        None => Ok((test, rest)),
+    }
+}
+
+// What comes after `?`.
+#[cycle(terms)]
+fn choice<'a>(
+    alloc: Global,
+    types: &[Str],
+    place: Place,
+    room: u32,
+    test: Term,
+    line: Line,
+    tokens: &'a [Token],
+) -> Result<(Term, &'a [Token]), Fault>
+    ensures { Gives view_term result (spec.choice (spec.inner types.now room spec.wholes (view_place place)) (view_term test) line tokens.now) }
+{
+    let (first, rest) = inner_term(alloc, types, place, room, tokens)?;
+    let (_, rest) = expect(Punct::Colon, rest)?;
+    let (second, rest) = inner_term(alloc, types, place, room, rest)?;
+    let choice = nodes::cond(alloc, line, test, first, second)?;
+    Ok((choice, rest))
+}
+
+/// Operators up to the level.
+#[cycle(terms)]
+#[tactic(auto, using(crate::proofs::Reading::levels_zero, crate::proofs::Reading::levels_more))]
+pub fn binary<'a>(
+    alloc: Global,
+    types: &[Str],
+    place: Place,
+    room: u32,
+    level: u32,
+    tokens: &'a [Token],
+) -> Result<(Term, &'a [Token]), Fault>
+    requires { level ≤ 10 }
+    ensures { Gives view_term result (levels spec.joined spec.operator level (spec.read types.now room spec.operands (view_place place)) tokens.now) }
+{
+    if level == 0 {
+        return operand(alloc, types, place, room, tokens);
+    }
+    let (left, rest) = binary(alloc, types, place, room, level - 1, tokens)?;
+    operators(alloc, types, place, room, level, left, rest)
+}
+
+// More operands of the level.
+#[cycle(terms)]
+#[tactic(auto, using(crate::proofs::Reading::chain_ends, crate::proofs::Reading::chain_stops))]
+fn operators<'a>(
+    alloc: Global,
+    types: &[Str],
+    place: Place,
+    room: u32,
+    level: u32,
+    first: Term,
+    tokens: &'a [Token],
+) -> Result<(Term, &'a [Token]), Fault>
+    requires least { 1 ≤ level }
+    requires most { level ≤ 10 }
+    ensures { Gives view_term result (chain spec.joined (spec.operator level) (levels spec.joined spec.operator (level - 1) (spec.read types.now room spec.operands (view_place place))) (length tokens.now) (view_term first) tokens.now) }
+{
+    let mut left = first;
+    let mut rest = tokens;
+    for turn in 0..tokens.len() {
+        let Some(((op, line), after)) = operator(level, rest) else {
+            return Ok((left, rest));
+        };
+        let (right, after) = binary(alloc, types, place, room, level - 1, after)?;
+        left = nodes::binary(alloc, op, line, left, right)?;
+        rest = after;
+    }
+    Ok((left, rest))
+}
+
+// An operand: prefix operators and casts before a part of a term.
+#[cycle(terms)]
+#[tactic(auto, using(crate::proofs::Reading::operand_is))]
+fn operand<'a>(
+    alloc: Global,
+    types: &[Str],
+    place: Place,
+    room: u32,
+    tokens: &'a [Token],
+) -> Result<(Term, &'a [Token]), Fault>
+    ensures { Gives view_term result (spec.read types.now room spec.operands (view_place place) tokens.now) }
+{
+    if let Some(((op, line), rest)) = prefix_at(place, tokens) {
+        return prefixed(alloc, types, place, room, op, line, rest);
+    }
+    match cast_at(types, tokens) {
+        Some((line, rest)) => cast(alloc, types, place, room, line, rest),
+        None => postfix(alloc, types, place, room, tokens),
+    }
+}
+
+#[cycle(terms)]
+fn prefixed<'a>(
+    alloc: Global,
+    types: &[Str],
+    place: Place,
+    room: u32,
+    op: UnOp,
+    line: Line,
+    tokens: &'a [Token],
+) -> Result<(Term, &'a [Token]), Fault>
+    ensures { Gives view_term result (spec.prefixed (spec.inner types.now room spec.operands (view_place place)) op line tokens.now) }
+{
+    let (of, rest) = inner_operand(alloc, types, place, room, tokens)?;
+    let unary = nodes::unary(alloc, op, line, of)?;
+    Ok((unary, rest))
+}
+
+// What comes after the parenthesis of a cast.
+#[cycle(terms)]
+fn cast<'a>(
+    alloc: Global,
+    types: &[Str],
+    place: Place,
+    room: u32,
+    line: Line,
+    tokens: &'a [Token],
+) -> Result<(Term, &'a [Token]), Fault>
+    ensures { Gives view_term result (spec.cast types.now (spec.inner types.now room spec.operands (view_place place)) line tokens.now) }
+{
+    let (ty, rest) = type_name_at(alloc, types, tokens)?;
+    let (_, rest) = expect(Punct::CloseParen, rest)?;
+    let (of, rest) = inner_operand(alloc, types, place, room, rest)?;
+    let cast = nodes::cast(alloc, line, ty, of)?;
+    Ok((cast, rest))
+}
+
+// An indexed term, or a field of one, and so on.
+#[cycle(terms)]
+#[tactic(auto, using(crate::proofs::Reading::postfix_is))]
+fn postfix<'a>(
+    alloc: Global,
+    types: &[Str],
+    place: Place,
+    room: u32,
+    tokens: &'a [Token],
+) -> Result<(Term, &'a [Token]), Fault>
+    ensures { Gives view_term result (spec.postfix types.now (view_place place) (spec.inner_args types.now room (inside_of (view_place place))) (spec.inner types.now room spec.wholes (inside_of (view_place place))) (spec.inner types.now room spec.groups (inside_of (view_place place))) tokens.now) }
+{
+    let (first, rest) = primary(alloc, types, place, room, tokens)?;
+    parts(alloc, types, place, room, first, rest)
+}
+
+// Parts of a term, and of these.
+#[cycle(terms)]
+#[tactic(auto, using(crate::proofs::Reading::parts_end, crate::proofs::Reading::parts_stop))]
+fn parts<'a>(
+    alloc: Global,
+    types: &[Str],
+    place: Place,
+    room: u32,
+    first: Term,
+    tokens: &'a [Token],
+) -> Result<(Term, &'a [Token]), Fault>
+    ensures { Gives view_term result (spec.parts (view_place place) (spec.inner types.now room spec.wholes (inside_of (view_place place))) (length tokens.now) (view_term first) tokens.now) }
+{
+    let mut part = first;
+    let mut rest = tokens;
+    for turn in 0..tokens.len() {
+        let Some(((selector, line), after)) = selector_at(rest) else {
+            return Ok((part, rest));
+        };
+        let (next, after) = selected(alloc, types, place, room, selector, line, part, after)?;
+        part = next;
+        rest = after;
+    }
+    Ok((part, rest))
+}
+
+#[cycle(terms)]
+fn selected<'a>(
+    alloc: Global,
+    types: &[Str],
+    place: Place,
+    room: u32,
+    selector: Selector,
+    line: Line,
+    base: Term,
+    tokens: &'a [Token],
+) -> Result<(Term, &'a [Token]), Fault>
+    ensures { Gives view_term result (spec.selected (view_place place) (spec.inner types.now room spec.wholes (inside_of (view_place place))) selector line (view_term base) tokens.now) }
+{
+    match selector {
+        Selector::Index => {
+            let (at, rest) = offset(alloc, types, place, room, tokens)?;
+            let (_, rest) = expect(Punct::CloseBracket, rest)?;
+            Ok((nodes::index(alloc, line, base, at)?, rest))
+        }
+        Selector::Dot => field(alloc, line, base, false, tokens),
+        Selector::Arrow => field(alloc, line, base, true, tokens),
+    }
+}
+
+fn field(
+    alloc: Global,
+    line: Line,
+    base: Term,
+    arrow: bool,
+    tokens: &[Token],
+) -> Result<(Term, &[Token]), Fault>
+    ensures { Gives view_term result (spec.field_at arrow line (view_term base) tokens.now) }
+{
+    let ((name, _), rest) = name_at(alloc, tokens)?;
+    let field = nodes::field(alloc, line, base, name, arrow)?;
+    Ok((field, rest))
+}
+
+// What stands in square brackets: a term, or in a set a range.
+#[cycle(terms)]
+fn offset<'a>(
+    alloc: Global,
+    types: &[Str],
+    place: Place,
+    room: u32,
+    tokens: &'a [Token],
+) -> Result<(Term, &'a [Token]), Fault>
+    ensures { Gives view_term result (spec.offset_at (view_place place) (spec.inner types.now room spec.wholes (inside_of (view_place place))) tokens.now) }
+{
+    let (low, rest) = inner_term(alloc, types, place.inside(), room, tokens)?;
+    let Some((line, rest)) = range_at(place, rest) else {
+        return Ok((low, rest));
+    };
+    let (high, rest) = inner_term(alloc, types, place.inside(), room, rest)?;
+    let range = nodes::range(alloc, line, low, high)?;
+    Ok((range, rest))
+}
+
+// A constant, a name, a call, `\result`, `\null`, `\old`, `\at`, or what stands in parentheses.
+#[cycle(terms)]
+#[tactic(auto, unfolding(crate::specs::Read::primary), using(c_syntax::proofs::Equations::term_laws))]
+fn primary<'a>(
+    alloc: Global,
+    types: &[Str],
+    place: Place,
+    room: u32,
+    tokens: &'a [Token],
+) -> Result<(Term, &'a [Token]), Fault>
+    ensures { Gives view_term result (spec.primary types.now (spec.inner_args types.now room (inside_of (view_place place))) (spec.inner types.now room spec.wholes (inside_of (view_place place))) (spec.inner types.now room spec.groups (inside_of (view_place place))) tokens.now) }
+{
+    let Some((first, rest)) = tokens.split_first() else {
+        return Err(Fault::Syntax);
+    };
+    let line = first.line;
+    match &first.kind {
+        TokenKind::Number { .. } => {
+            let node = TermNode::Number(first.copy(alloc)?);
+            Ok((Term { node, line }, rest))
+        }
+        TokenKind::Char(value) => {
+            let node = TermNode::Char(*value);
+            Ok((Term { node, line }, rest))
+        }
+        TokenKind::Name(name) => named(alloc, types, place, room, name, line, rest),
+        TokenKind::Word(word) => worded(alloc, types, place, room, *word, line, rest),
+        TokenKind::Punct(Punct::OpenParen) => {
+            let (inside, rest) = inner_group(alloc, types, place.inside(), room, rest)?;
+            let (_, rest) = expect(Punct::CloseParen, rest)?;
+            Ok((inside, rest))
+        }
+        _ => Err(Fault::Syntax),
+    }
+}
+
+// What comes after a name.
+#[cycle(terms)]
+#[tactic(auto, using(c_syntax::proofs::Equations::term_laws))]
+fn named<'a>(
+    alloc: Global,
+    types: &[Str],
+    place: Place,
+    room: u32,
+    name: &Str,
+    line: Line,
+    tokens: &'a [Token],
+) -> Result<(Term, &'a [Token]), Fault>
+    ensures { Gives view_term result (spec.named types.now name.now line (spec.inner_args types.now room (inside_of (view_place place))) tokens.now) }
+{
+    if is_type(types, name) {
+        return Err(Fault::Syntax);
+    }
+    let Some((_, rest)) = punct_at(Punct::OpenParen, tokens) else {
+        let node = TermNode::Name(name.copy(alloc)?);
+        return Ok((Term { node, line }, tokens));
+    };
+    let (args, rest) = args(alloc, types, place.inside(), room, rest)?;
+    Ok((nodes::call(line, name.copy(alloc)?, args), rest))
+}
+
+// The arguments of a call, behind the parenthesis that opens them.
+#[cycle(terms)]
+#[tactic(auto, using(crate::proofs::Reading::args_none, crate::proofs::Reading::args_some))]
+fn args<'a>(
+    alloc: Global,
+    types: &[Str],
+    place: Place,
+    room: u32,
+    tokens: &'a [Token],
+) -> Result<(List<Term>, &'a [Token]), Fault>
+    ensures { Gives (map view_term) result (spec.inner_args types.now room (view_place place) tokens.now) }
+{
+    if room == 0 {
+        return Err(Fault::Syntax);
+    }
+    if let Some((_, rest)) = punct_at(Punct::CloseParen, tokens) {
+        return Ok((List::new(alloc), rest));
+    }
+    let (args, rest) = terms(alloc, types, place, room - 1, tokens)?;
+    let (_, rest) = expect(Punct::CloseParen, rest)?;
+    Ok((args, rest))
+}
+
+/// Terms, with commas between them.
+#[cycle(terms)]
+pub fn terms<'a>(
+    alloc: Global,
+    types: &[Str],
+    place: Place,
+    room: u32,
+    tokens: &'a [Token],
+) -> Result<(List<Term>, &'a [Token]), Fault>
+    ensures { Gives (map view_term) result (spec.terms_by (spec.read types.now room spec.wholes (view_place place)) tokens.now) }
+{
+    let mut terms = List::new(alloc);
+    let (first, rest) = term(alloc, types, place, room, tokens)?;
+    terms.push(first)?;
+    more_terms(alloc, types, place, room, terms, rest)
+}
+
+// The terms so far, and those that come after a comma.
+#[cycle(terms)]
+fn more_terms<'a>(
+    alloc: Global,
+    types: &[Str],
+    place: Place,
+    room: u32,
+    first: List<Term>,
+    tokens: &'a [Token],
+) -> Result<(List<Term>, &'a [Token]), Fault>
+    ensures { Gives (map view_term) result (with_items (map view_term first) (spec.more_terms (spec.read types.now room spec.wholes (view_place place)) (length tokens.now) tokens.now)) }
+{
+    let mut terms = first;
+    let mut rest = tokens;
+    for turn in 0..tokens.len() {
+        let Some((_, after)) = punct_at(Punct::Comma, rest) else {
+            return Ok((terms, rest));
+        };
+        let (item, after) = term(alloc, types, place, room, after)?;
+        terms.push(item)?;
+        rest = after;
+    }
+    Ok((terms, rest))
+}
+
+// What comes after a word.
+#[cycle(terms)]
+#[tactic(auto, using(c_syntax::proofs::Equations::term_laws))]
+fn worded<'a>(
+    alloc: Global,
+    types: &[Str],
+    place: Place,
+    room: u32,
+    word: Word,
+    line: Line,
+    tokens: &'a [Token],
+) -> Result<(Term, &'a [Token]), Fault>
+    ensures { Gives view_term result (spec.worded word line (spec.inner types.now room spec.wholes (inside_of (view_place place))) tokens.now) }
+{
+    match word {
+        Word::Result => Ok((
+            Term {
+                node: TermNode::Result,
+                line,
+            },
+            tokens,
+        )),
+        Word::Null => Ok((
+            Term {
+                node: TermNode::Null,
+                line,
+            },
+            tokens,
+        )),
+        Word::Old => old(alloc, types, place, room, line, tokens),
+        Word::At => at_label(alloc, types, place, room, line, tokens),
+        _ => Err(Fault::Syntax),
+    }
+}
+
+// What comes after `\old`.
+#[cycle(terms)]
+fn old<'a>(
+    alloc: Global,
+    types: &[Str],
+    place: Place,
+    room: u32,
+    line: Line,
+    tokens: &'a [Token],
+) -> Result<(Term, &'a [Token]), Fault>
+    ensures { Gives view_term result (spec.old_at line (spec.inner types.now room spec.wholes (inside_of (view_place place))) tokens.now) }
+{
+    let (_, rest) = expect(Punct::OpenParen, tokens)?;
+    let (of, rest) = inner_term(alloc, types, place.inside(), room, rest)?;
+    let (_, rest) = expect(Punct::CloseParen, rest)?;
+    let old = nodes::old(alloc, line, of)?;
+    Ok((old, rest))
+}
+
+// What comes after `\at`.
+#[cycle(terms)]
+fn at_label<'a>(
+    alloc: Global,
+    types: &[Str],
+    place: Place,
+    room: u32,
+    line: Line,
+    tokens: &'a [Token],
+) -> Result<(Term, &'a [Token]), Fault>
+    ensures { Gives view_term result (spec.label_at line (spec.inner types.now room spec.wholes (inside_of (view_place place))) tokens.now) }
+{
+    let (_, rest) = expect(Punct::OpenParen, tokens)?;
+    let (of, rest) = inner_term(alloc, types, place.inside(), room, rest)?;
+    let (_, rest) = expect(Punct::Comma, rest)?;
+    let ((label, _), rest) = name_at(alloc, rest)?;
+    let (_, rest) = expect(Punct::CloseParen, rest)?;
+    let at_label = nodes::at_label(alloc, line, of, label)?;
+    Ok((at_label, rest))
+}

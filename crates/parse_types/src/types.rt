@@ -1,0 +1,234 @@
+// Types, pointers and names of types (C11 6.7.2, 6.7.3, 6.7.6, 6.7.7).
+ghost use Rattle.std.specs.Prelude.{◌≡◌, true, IfOk, length};
+ghost use Rattle.c_syntax.specs.View.{view_ctype};
+ghost use Rattle.c_syntax.specs.Expr as e;
+ghost use Rattle.c_grammar.specs.Types.{const_if, SpellsType, SpellsStars, SpellsTypeName};
+ghost use Rattle.c_grammar.specs.Views.{Gives};
+ghost use Rattle.parse_types.specs.Clauses.{IsSpelled, IsOnly};
+ghost use Rattle.parse_types.specs.Read as spec;
+
+use crate::kinds::{is_kind_word, kind_at};
+use c_grammar::{Fault, is_type, name_at, punct_at};
+use c_syntax::{CType, Punct, Token, TokenKind, Word};
+use std::alloc::Global;
+use wp_base::{Boxed, NoMemory, Str};
+
+fn word_starts(word: Word) -> bool
+    ensures { result ≡ spec.word_starts word }
+{
+    match word {
+        Word::Const => true,
+        Word::Void => true,
+        Word::Struct => true,
+        Word::Enum => true,
+        _ => is_kind_word(word),
+    }
+}
+
+/// Whether the first token begins a type.
+#[tactic(auto, unfolding(crate::specs::Read::starts_type))]
+pub fn starts_type(types: &[Str], tokens: &[Token]) -> bool
+    ensures { result ≡ spec.starts_type types.now tokens.now }
+{
+    let Some((first, _)) = tokens.split_first() else {
+        return false;
+    };
+    match &first.kind {
+        TokenKind::Word(word) => word_starts(*word),
+        TokenKind::Name(name) => is_type(types, name),
+        _ => false,
+    }
+}
+
+fn is_const(kind: &TokenKind) -> bool
+    ensures { result ≡ spec.is_const kind.now }
+{
+    matches!(kind, TokenKind::Word(Word::Const))
+}
+
+// Each `const` at the front, and whether there is one.
+fn consts_at(tokens: &[Token]) -> (bool, &[Token])
+    ensures found { result.0 ≡ (spec.consts_at tokens.now).0 }
+    ensures rest { result.1.now ≡ (spec.consts_at tokens.now).1 }
+{
+    let mut found = false;
+    let mut rest = tokens;
+    while let Some((first, after)) = rest.split_first() {
+        if !is_const(&first.kind) {
+            return (found, rest);
+        }
+        found = true;
+        rest = after;
+    }
+    (found, rest)
+}
+
+// A `const` where it is allowed, if one comes next.
+#[tactic(auto, unfolding(crate::specs::Read::const_at))]
+fn const_at(consts: bool, tokens: &[Token]) -> (bool, &[Token])
+    ensures found { result.0 ≡ (spec.const_at consts tokens.now).0 }
+    ensures rest { result.1.now ≡ (spec.const_at consts tokens.now).1 }
+{
+    match tokens.split_first() {
+        Some((first, rest)) if consts && is_const(&first.kind) => (true, rest),
+        _ => (false, tokens),
+    }
+}
+
+#[tactic(auto, using(crate::proofs::Reading::views))]
+fn with_const(alloc: Global, constant: bool, ty: CType) -> Result<CType, NoMemory>
+    ensures { IfOk result (λ x. view_ctype x ≡ const_if constant (view_ctype ty)) }
+{
+    if constant {
+        Ok(CType::Const(Boxed::new(alloc, ty)?))
+    } else {
+        Ok(ty)
+    }
+}
+
+#[tactic(auto, using(crate::proofs::Reading::views))]
+fn pointer(alloc: Global, constant: bool, to: CType) -> Result<CType, NoMemory>
+    ensures { IfOk result (λ x. view_ctype x ≡ const_if constant (e.pointer (view_ctype to))) }
+{
+    let pointer = CType::Pointer(Boxed::new(alloc, to)?);
+    with_const(alloc, constant, pointer)
+}
+
+// The type that begins with a word.
+#[tactic(auto, using(crate::proofs::Reading::views))]
+fn worded<'a>(
+    alloc: Global,
+    word: Word,
+    tokens: &'a [Token],
+    after: &'a [Token],
+) -> Result<(CType, &'a [Token]), Fault>
+    ensures { Gives view_ctype result (spec.worded word tokens.now after.now) }
+{
+    match word {
+        Word::Void => Ok((CType::Void, after)),
+        Word::Struct => {
+            let ((name, _), rest) = name_at(alloc, after)?;
+            Ok((CType::Struct(name), rest))
+        }
+        Word::Enum => {
+            let ((name, _), rest) = name_at(alloc, after)?;
+            Ok((CType::Enum(name), rest))
+        }
+        _ => {
+            let (kind, rest) = kind_at(alloc, tokens)?;
+            Ok((CType::Kind(kind), rest))
+        }
+    }
+}
+
+// A type without `const`.
+#[tactic(auto, using(crate::proofs::Reading::views), unfolding(crate::specs::Read::specifier_at))]
+fn specifier_at<'a>(
+    alloc: Global,
+    types: &[Str],
+    tokens: &'a [Token],
+) -> Result<(CType, &'a [Token]), Fault>
+    ensures { Gives view_ctype result (spec.specifier_at types.now tokens.now) }
+{
+    let Some((first, after)) = tokens.split_first() else {
+        return Err(Fault::Syntax);
+    };
+    match &first.kind {
+        TokenKind::Word(word) => worded(alloc, *word, tokens, after),
+        TokenKind::Name(name) if is_type(types, name) => {
+            Ok((CType::Named(name.copy(alloc)?), after))
+        }
+        _ => Err(Fault::Syntax),
+    }
+}
+
+// A type with its `const`.
+#[tactic(auto, unfolding(crate::specs::Read::type_at))]
+fn read_type<'a>(
+    alloc: Global,
+    types: &[Str],
+    tokens: &'a [Token],
+) -> Result<(CType, &'a [Token]), Fault>
+    ensures { Gives view_ctype result (spec.type_at types.now tokens.now) }
+{
+    let (before, rest) = consts_at(tokens);
+    let (ty, rest) = specifier_at(alloc, types, rest)?;
+    let (after, rest) = consts_at(rest);
+    Ok((with_const(alloc, before || after, ty)?, rest))
+}
+
+// The pointers to a type, as many as there are.
+#[tactic(auto, using(crate::proofs::Reading::stars_turn))]
+fn read_stars<'a>(
+    alloc: Global,
+    consts: bool,
+    base: CType,
+    tokens: &'a [Token],
+) -> Result<(CType, &'a [Token]), Fault>
+    ensures { Gives view_ctype result (spec.stars_at consts (view_ctype base) tokens.now) }
+{
+    let mut ty = base;
+    let mut rest = tokens;
+    for turn in 0..tokens.len() {
+        let Some((_, after)) = punct_at(Punct::Star, rest) else {
+            return Ok((ty, rest));
+        };
+        let (constant, after) = const_at(consts, after);
+        ty = pointer(alloc, constant, ty)?;
+        rest = after;
+    }
+    Ok((ty, rest))
+}
+
+// A type and pointers to it.
+#[tactic(auto, unfolding(crate::specs::Read::type_name_at))]
+fn read_type_name<'a>(
+    alloc: Global,
+    types: &[Str],
+    tokens: &'a [Token],
+) -> Result<(CType, &'a [Token]), Fault>
+    ensures { Gives view_ctype result (spec.type_name_at types.now tokens.now) }
+{
+    let (ty, rest) = read_type(alloc, types, tokens)?;
+    read_stars(alloc, false, ty, rest)
+}
+
+/// A type with its `const`, and the tokens after it.
+pub fn type_at<'a>(
+    alloc: Global,
+    types: &[Str],
+    tokens: &'a [Token],
+) -> Result<(CType, &'a [Token]), Fault>
+    ensures reads { Gives view_ctype result (spec.type_at types.now tokens.now) }
+    ensures spelled { IsSpelled (SpellsType types.now) view_ctype tokens.now result }
+    ensures only { IsOnly (SpellsType types.now) (λ rest. spec.ends_type rest ≡ true) view_ctype tokens.now result }
+{
+    read_type(alloc, types, tokens)
+}
+
+/// The pointers to a type, as many as there are, each with `const` where it is allowed.
+pub fn stars_at<'a>(
+    alloc: Global,
+    consts: bool,
+    base: CType,
+    tokens: &'a [Token],
+) -> Result<(CType, &'a [Token]), Fault>
+    ensures reads { Gives view_ctype result (spec.stars_at consts (view_ctype base) tokens.now) }
+    ensures spelled { IsSpelled (λ front ty. SpellsStars consts front (view_ctype base) ty) view_ctype tokens.now result }
+    ensures only { IsOnly (λ front ty. SpellsStars consts front (view_ctype base) ty) (λ rest. spec.ends_stars consts rest ≡ true) view_ctype tokens.now result }
+{
+    read_stars(alloc, consts, base, tokens)
+}
+
+/// The name of a type: a type and pointers to it.
+pub fn type_name_at<'a>(
+    alloc: Global,
+    types: &[Str],
+    tokens: &'a [Token],
+) -> Result<(CType, &'a [Token]), Fault>
+    ensures reads { Gives view_ctype result (spec.type_name_at types.now tokens.now) }
+    ensures spelled { IsSpelled (SpellsTypeName types.now) view_ctype tokens.now result }
+    ensures only { IsOnly (SpellsTypeName types.now) (λ rest. spec.ends_type_name rest ≡ true) view_ctype tokens.now result }
+{
+    read_type_name(alloc, types, tokens)
+}

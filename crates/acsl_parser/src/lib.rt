@@ -1,4 +1,4 @@
-//! Reads contracts, annotations of loops, assertions and definitions: what is read is spelled so, and what is
+//! Floor 2, parsers: reads contracts, annotations of loops, assertions and definitions: what is read is spelled so, and what is
 //! spelled is read where what comes behind it may follow, unless memory runs out.
 #![tactic(auto)]
 

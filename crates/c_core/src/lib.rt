@@ -1,4 +1,4 @@
-//! From the tree of a program of C to that which is verified, where it is built so far.
+//! Floor 3, program: from the tree of a program of C to that which is verified, where it is built so far.
 #![tactic(auto)]
 
 mod clauses;

@@ -1,4 +1,4 @@
-//! Reads a text: from bytes to the program that is verified, or the one fault of the text.
+//! Floor 3, program: reads a text: from bytes to the program that is verified, or the one fault of the text.
 #![tactic(auto)]
 
 mod reader;

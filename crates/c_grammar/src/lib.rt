@@ -1,4 +1,4 @@
-//! The grammar of C and of its annotations: which tokens spell which tree. Its code reads single tokens, for the parsers above it.
+//! Floor 1, text: the grammar of C and of its annotations: which tokens spell which tree. Its code reads single tokens, for the parsers above it.
 #![tactic(auto)]
 
 mod fault;

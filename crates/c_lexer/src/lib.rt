@@ -1,4 +1,4 @@
-//! From the bytes of a C file with annotations to its tokens.
+//! Floor 1, text: from the bytes of a C file with annotations to its tokens.
 #![tactic(auto)]
 
 mod bytes;

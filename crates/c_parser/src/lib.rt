@@ -1,4 +1,4 @@
-//! Reads files of C with annotations: from tokens to programs.
+//! Floor 2, parsers: reads files of C with annotations: from tokens to programs.
 #![tactic(auto)]
 
 mod limits;

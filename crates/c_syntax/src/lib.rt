@@ -1,4 +1,4 @@
-//! Syntax as spelled: tokens, and the trees of declarations, expressions, statements and annotations.
+//! Floor 1, text: syntax as spelled: tokens, and the trees of declarations, expressions, statements and annotations.
 #![tactic(auto)]
 
 mod annot;

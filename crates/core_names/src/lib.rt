@@ -1,4 +1,4 @@
-//! Which names a program may use: they differ where they have to, and each is in scope where it stands.
+//! Floor 3, program: which names a program may use: they differ where they have to, and each is in scope where it stands.
 #![tactic(auto)]
 
 mod names;

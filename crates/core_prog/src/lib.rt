@@ -1,4 +1,4 @@
-//! The program as read: functions of `int` parameters, each with a contract and a body of statements.
+//! Floor 3, program: the program as read: functions of `int` parameters, each with a contract and a body of statements.
 #![tactic(auto)]
 
 mod tree;

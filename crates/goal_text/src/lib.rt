@@ -1,4 +1,4 @@
-//! The text of goals, written and read back.
+//! Floor 4, logic: the text of goals, written and read back.
 #![tactic(auto)]
 
 mod answer;

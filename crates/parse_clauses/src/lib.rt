@@ -1,4 +1,4 @@
-//! The clauses of contracts, behaviors and loops: by their sorts, and which may stand together.
+//! Floor 2, parsers: the clauses of contracts, behaviors and loops: by their sorts, and which may stand together.
 #![tactic(auto)]
 
 mod items;

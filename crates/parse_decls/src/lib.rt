@@ -1,4 +1,4 @@
-//! Reads declarations: declarators, variables, parameters, fields and enumerators.
+//! Floor 2, parsers: reads declarations: declarators, variables, parameters, fields and enumerators.
 #![tactic(auto)]
 
 mod declarators;

@@ -1,4 +1,4 @@
-//! Reads expressions: equal to a reader on token lists that is proved against the grammar in both directions.
+//! Floor 2, parsers: reads expressions: equal to a reader on token lists that is proved against the grammar in both directions.
 #![tactic(auto)]
 
 mod exprs;

@@ -1,4 +1,4 @@
-//! The declarations with which the tokens of a file begin, as far as they are spelled.
+//! Floor 2, parsers: the declarations with which the tokens of a file begin, as far as they are spelled.
 #![tactic(auto)]
 
 mod decls;

@@ -1,4 +1,4 @@
-//! Parts of statements, and statements that have none in them: read by the grammar, and put together.
+//! Floor 2, parsers: parts of statements, and statements that have none in them: read by the grammar, and put together.
 #![tactic(auto)]
 
 mod forms;

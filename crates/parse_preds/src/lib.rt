@@ -1,4 +1,4 @@
-//! Reads predicates of annotations, and the types and names that annotations declare.
+//! Floor 2, parsers: reads predicates of annotations, and the types and names that annotations declare.
 #![tactic(auto)]
 
 mod atoms;

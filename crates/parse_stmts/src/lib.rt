@@ -1,4 +1,4 @@
-//! Statements: the parser of C's statements and of the annotations between them, by the grammar.
+//! Floor 2, parsers: statements: the parser of C's statements and of the annotations between them, by the grammar.
 #![tactic(auto)]
 
 mod blocks;

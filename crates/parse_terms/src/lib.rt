@@ -1,4 +1,4 @@
-//! Reads the terms of annotations: what is read is spelled so, and what is
+//! Floor 2, parsers: reads the terms of annotations: what is read is spelled so, and what is
 //! spelled is read where what comes behind it may follow, unless memory runs out.
 #![tactic(auto)]
 

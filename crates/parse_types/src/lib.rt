@@ -1,4 +1,4 @@
-//! Reads the types of C: specifiers, pointers and names of types.
+//! Floor 2, parsers: reads the types of C: specifiers, pointers and names of types.
 #![tactic(auto)]
 
 mod kinds;

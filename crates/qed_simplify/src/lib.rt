@@ -1,4 +1,4 @@
-//! The normal form of formulas: linear forms of terms, relations with 0, negation inward, and flat `and` and `or`.
+//! Floor 4, logic: the normal form of formulas: linear forms of terms, relations with 0, negation inward, and flat `and` and `or`.
 #![tactic(auto)]
 
 mod divide;

@@ -1,4 +1,4 @@
-//! Terms and formulas, the trees that they stand for, and what these mean.
+//! Floor 4, logic: terms and formulas, the trees that they stand for, and what these mean.
 #![tactic(auto)]
 
 mod build;

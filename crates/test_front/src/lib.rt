@@ -1,4 +1,4 @@
-//! From bytes to trees and programs: each call of the reading crates on its happy path, and a text for each form of the grammar, whose
+//! Floor 8, tests: from bytes to trees and programs: each call of the reading crates on its happy path, and a text for each form of the grammar, whose
 //! tree is compared whole.
 #![tactic(auto)]
 

@@ -1,4 +1,4 @@
-//! Terms, their stores and orders, and the texts of goals, on their happy paths.
+//! Floor 8, tests: terms, their stores and orders, and the texts of goals, on their happy paths.
 #![tactic(auto)]
 
 #[cfg(test)]

@@ -1,4 +1,4 @@
-//! Runs of the top call over files and sinks in memory: what it reads, what it writes and how it ends.
+//! Floor 8, tests: runs of the top call over files and sinks in memory: what it reads, what it writes and how it ends.
 #![tactic(auto)]
 
 #[cfg(test)]

@@ -1,4 +1,4 @@
-//! The program `wp`: reads one preprocessed C file with ACSL annotations, proves its goals and
+//! Floor 7, command: the program `wp`: reads one preprocessed C file with ACSL annotations, proves its goals and
 //! prints a report. All that it does is `wp_main`; here are the words, the runtime and the status.
 #![tactic(auto)]
 

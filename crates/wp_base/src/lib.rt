@@ -1,4 +1,4 @@
-//! Base types of the verifier: texts, lists, boxes, want of memory, and the answers of the program.
+//! Floor 0, ground: base types of the verifier: texts, lists, boxes, want of memory, and the answers of the program.
 #![tactic(auto)]
 
 mod answers;

@@ -1,4 +1,4 @@
-//! The written goals of a program, and what they say of its runs.
+//! Floor 5, goals: the written goals of a program, and what they say of its runs.
 #![tactic(auto)]
 
 mod annotations;

@@ -1,4 +1,4 @@
-//! The top call of the program: from the words of the command to the report.
+//! Floor 7, command: the top call of the program: from the words of the command to the report.
 #![tactic(auto)]
 
 mod answer;

@@ -1,4 +1,4 @@
-//! The outside of the programs: files that are read by name and a sink that is written to, each
+//! Floor 0, ground: the outside of the programs: files that are read by name and a sink that is written to, each
 //! with a count of its faults, and the two calls that read and write whole texts.
 //!
 //! There are three forms of each: in memory, failing where they are told to; still, which never

@@ -1,5 +1,5 @@
 -- A text spells one program or has one fault.
-use Rattle.std.proofs.Common.{◌≡◌, ℕ, Bool, true, false, if◌then◌else◌, List, [], ◌∷◌, ◌++◌, length, Option, Some, None, Result, Ok, Err, MatchResult, refl, sym, ap, ◌∙◌, subst, arith, inl, inr}
+use Rattle.std.proofs.Common.{◌≡◌, ◌⊎◌, ℕ, Bool, true, false, if◌then◌else◌, List, [], ◌∷◌, ◌++◌, length, Option, Some, None, Result, Ok, Err, MatchResult, refl, sym, ap, ◌∙◌, subst, arith, inl, inr}
 use Rattle.wp_base.specs.declared.answers.Refusal.{Refusal}
 use Rattle.wp_base.specs.declared.answers.Rule.{Rule}
 use Rattle.wp_base.specs.declared.answers.Rule.TheVariants as rule
@@ -9,13 +9,14 @@ use Rattle.c_syntax.specs.declared.token.Token.{Token}
 use Rattle.c_syntax.specs.Decl as d
 use Rattle.c_lexer.specs.Tokens.{tokens_of, StopsWith}
 use Rattle.c_grammar.specs.Decls.{past_limit, SpellsLines, IsUnspelledOn}
-use Rattle.c_parser.specs.Outcome.{SpellsWithin, SpellsPast, Refuses}
-use Rattle.c_parser.proofs.Exact.{one_program}
+use Rattle.c_parser.specs.Outcome.{Outcome, parsed, SpellsWithin, SpellsPast, Refuses, outcome}
+use Rattle.c_parser.specs.Outcome as parser
+use Rattle.c_parser.proofs.Exact.{one_program, Says, outcome_says}
 use Rattle.parse_file.proofs.Parts.{parts}
 use Rattle.core_prog.specs.Tree as t
 use Rattle.core_prog.specs.Names.{is_well_named_program}
 use Rattle.c_core.specs.Core.{core_of}
-use Rattle.c_front.specs.Text.{where_named, built, Spells, HasFault, unlexed, unspelled, past, unbuilt}
+use Rattle.c_front.specs.Text.{where_named, built, Spells, HasFault, unlexed, unspelled, past, unbuilt, SpellsOrHasFault}
 
 same_tokens : (text : List ℕ) (ts us : List Token) → tokens_of text ≡ Ok ts → tokens_of text ≡ Ok us → ts ≡ us
 same_tokens text ts us a b = let same = sym a ∙ b in cc
@@ -101,6 +102,24 @@ one_fault text r q (unbuilt ts tree e within none) (unspelled ts' line' e' none'
     absurd (none' tree here.0 here.1)
 one_fault text r q (unbuilt ts tree e within none) (past ts' line' e' over) = absurd (not_past ts ts' tree line' (same_tokens text ts ts' e e') within over)
 one_fault text r q (unbuilt ts tree e within none) (unbuilt ts' tree' e' within' none') = refl
+
+-- ---- a program or a fault
+
+by_tree : (text : List ℕ) (ts : List Token) (tree : d.Program) → tokens_of text ≡ Ok ts → SpellsWithin ts tree → (made : Option t.Program) → built tree ≡ made → SpellsOrHasFault text
+by_tree text ts tree e within (Some p) is = inl (p, record { tokens = ts; tree = tree; lexed = e; spelled = within; made = is })
+by_tree text ts tree e within None none = inr (record { rule = rule.Unbuilt; line = 1 }, unbuilt ts tree e within none)
+
+by_outcome : (text : List ℕ) (ts : List Token) → tokens_of text ≡ Ok ts → (given : Outcome) → Says ts given → SpellsOrHasFault text
+by_outcome text ts e (parsed tree) says = by_tree text ts tree e says (built tree) refl
+by_outcome text ts e (parser.unspelled line) says = inr (record { rule = rule.Syntax; line = line }, unspelled ts line e says.0 says.1)
+by_outcome text ts e (parser.past line) says = inr (record { rule = rule.Limit; line = line }, past ts line e says)
+
+by_tokens : (text : List ℕ) (given : Result (List Token) Refusal) → tokens_of text ≡ given → SpellsOrHasFault text
+by_tokens text (Ok ts) e = by_outcome text ts e (outcome ts) (outcome_says parts ts)
+by_tokens text (Err r) e = inr (r, unlexed r e)
+
+pub program_or_fault : (text : List ℕ) → SpellsOrHasFault text
+program_or_fault text = by_tokens text (tokens_of text) refl
 
 -- ---- what the code answers
 

@@ -1,5 +1,5 @@
 -- Which program a text spells, and the one fault of a text that spells none that is built.
-use Rattle.std.specs.Prelude.{◌≡◌, ℕ, if◌then◌else◌, List, Option, Some, None, Ok, Err}
+use Rattle.std.specs.Prelude.{◌≡◌, ◌⊎◌, ℕ, if◌then◌else◌, List, Option, Some, None, Ok, Err}
 use Rattle.wp_base.specs.declared.answers.Refusal.{Refusal}
 use Rattle.wp_base.specs.declared.answers.Rule.TheVariants as rule
 use Rattle.c_syntax.specs.declared.token.Token.{Token}
@@ -34,3 +34,7 @@ pub data HasFault (text : List ℕ) : Refusal → Type 0 where
   unspelled : (tokens : List Token) (line : ℕ) → tokens_of text ≡ Ok tokens → SpellsNone tokens → IsUnspelledOn tokens line → HasFault text (record { rule = rule.Syntax; line = line })
   past : (tokens : List Token) (line : ℕ) → tokens_of text ≡ Ok tokens → SpellsPast tokens line → HasFault text (record { rule = rule.Limit; line = line })
   unbuilt : (tokens : List Token) (tree : d.Program) → tokens_of text ≡ Ok tokens → SpellsWithin tokens tree → built tree ≡ None → HasFault text (record { rule = rule.Unbuilt; line = 1 })
+
+-- It spells a program that is built, or it has a fault.
+abbrev pub SpellsOrHasFault : List ℕ → Type 0
+SpellsOrHasFault text = ((p : t.Program) × Spells text p) ⊎ ((r : Refusal) × HasFault text r)

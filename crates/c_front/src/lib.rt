@@ -3,4 +3,4 @@
 
 mod reader;
 
-pub use reader::{one_fault, read_program, spelled_has_no_fault, spelled_once};
+pub use reader::{one_fault, program_or_fault, read_program, spelled_has_no_fault, spelled_once};

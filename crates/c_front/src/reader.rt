@@ -5,7 +5,7 @@ ghost use Rattle.core_prog.specs.View.{view_program};
 ghost use Rattle.c_syntax.specs.View as tree;
 ghost use Rattle.c_core.specs.Made.{Makes};
 ghost use Rattle.c_front.specs.Text as spec;
-ghost use Rattle.c_front.specs.Text.{HasFault, Spells};
+ghost use Rattle.c_front.specs.Text.{HasFault, Spells, SpellsOrHasFault};
 
 use c_core::{Unmade, core_of};
 use c_lexer::lex;
@@ -60,4 +60,9 @@ pub fn spelled_has_no_fault()
 /// A text has one fault at most.
 pub fn one_fault()
     ensures { (text : List ℕ) → (r s : Refusal) → HasFault text r → HasFault text s → r ≡ s }
+{}
+
+/// Each text spells a program that is built, or has a fault.
+pub fn program_or_fault()
+    ensures { (text : List ℕ) → SpellsOrHasFault text }
 {}

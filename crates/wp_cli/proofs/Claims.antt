@@ -25,7 +25,7 @@ use Rattle.wp_cli.specs.Report.{Judged, Reported, is_proved, goals_proved}
 use Rattle.wp_cli.specs.Answers.{limit, IsProved, IsVerdict, IsJudged, AreJudged, IsReported, IsReportOf, HasFault, too_long, faulty, Answers, proved, unknown, refused}
 use Rattle.wp_cli.specs.Command.{Command, command_of, asks, shows_goals}
 use Rattle.wp_cli.proofs.Judging.{each_at, partner_at}
-use Rattle.wp_cli.specs.Top.{told, OnReport, IsRead, AnswersFile, WritesReport, ProvedGoalsAreValid, ProvedFunctionsAreCorrect, GoalsAreExactIn, IsAnsweredBy}
+use Rattle.wp_cli.specs.Top.{told, IsRead, AnswersFile, WritesAnswer, Claims, ProvedGoalsAreValid, ProvedFunctionsAreCorrect, GoalsAreExactIn, IsAnsweredBy}
 
 all_at : {X : Type 0} (p : X → Bool) (xs : List X) (i : ℕ) (x : X) → list_all p xs ≡ true → slice_get xs i ≡ Some x → p x ≡ true
 all_at p [] i x a m = absurd cc
@@ -74,34 +74,28 @@ exact p rs w i j f g m n = goals_are_exact f (well_named p i f w m) j g n
 
 -- ---- the clauses of the top call
 
--- what holds of every report of a program that a text spells, holds of the report that was written
-pub report_claim : (shows : Bool) (told before after : Option (List ℕ)) (result : Status) (bytes : List ℕ) (Claim : Program → List Reported → Type 0)
-    → ((text : List ℕ) (p : Program) (rs : List Reported) → Spells text p → IsReportOf shows p rs → Claim p rs)
-    → AnswersFile shows told result bytes → Appends before after bytes → OnReport result (WritesReport shows told before after Claim)
-report_claim shows told before after result bytes Claim holds file written = by result bytes file.answer written
+claims : (shows : Bool) (text : List ℕ) (p : Program) (rs : List Reported) → Spells text p → IsReportOf shows p rs → Claims p rs
+claims shows text p rs spelled judged = record { valid = valid shows p rs judged; correct = correct shows p rs (core_named text p spelled) judged; exact = exact p rs (core_named text p spelled) }
+
+-- an answer that was written whole is a report whose claims are so, or a refusal
+pub answer_written : (shows : Bool) (told before after : Option (List ℕ)) (result : Status) (bytes : List ℕ) → AnswersFile shows told result bytes → Appends before after bytes → WritesAnswer shows told before after result
+answer_written shows told before after result bytes file written = by result bytes file.answer written
   where
-    by : (result : Status) (bytes : List ℕ) → Answers shows file.text result bytes → Appends before after bytes → OnReport result (WritesReport shows told before after Claim)
-    by result bytes (proved p rs within spelled judged all) w = record { text = file.text; read = file.read; program = p; spelled = spelled; report = rs; judged = judged; written = w; claim = holds file.text p rs spelled judged }
-    by result bytes (unknown p rs within spelled judged all) w = record { text = file.text; read = file.read; program = p; spelled = spelled; report = rs; judged = judged; written = w; claim = holds file.text p rs spelled judged }
-    by result bytes (refused r fault) w = tt
-
-pub valid_claim : (shows : Bool) (text : List ℕ) (p : Program) (rs : List Reported) → Spells text p → IsReportOf shows p rs → ProvedGoalsAreValid p rs
-valid_claim shows text p rs spelled judged = valid shows p rs judged
-
-pub correct_claim : (shows : Bool) (text : List ℕ) (p : Program) (rs : List Reported) → Spells text p → IsReportOf shows p rs → ProvedFunctionsAreCorrect p rs
-correct_claim shows text p rs spelled judged = correct shows p rs (core_named text p spelled) judged
-
-pub exact_claim : (shows : Bool) (text : List ℕ) (p : Program) (rs : List Reported) → Spells text p → IsReportOf shows p rs → GoalsAreExactIn p rs
-exact_claim shows text p rs spelled judged = exact p rs (core_named text p spelled)
+    by : (result : Status) (bytes : List ℕ) → Answers shows file.text result bytes → Appends before after bytes → WritesAnswer shows told before after result
+    by result bytes (proved p rs within spelled judged all) w =
+        record { text = file.text; read = file.read; within = within; program = p; spelled = spelled; report = rs; judged = judged; all = all; written = w; claims = claims shows file.text p rs spelled judged }
+    by result bytes (unknown p rs within spelled judged all) w =
+        record { text = file.text; read = file.read; within = within; program = p; spelled = spelled; report = rs; judged = judged; all = all; written = w; claims = claims shows file.text p rs spelled judged }
+    by result bytes (refused r fault) w = record { text = file.text; read = file.read; fault = r; broken = fault; written = w }
 
 no_fault : (text : List ℕ) (p : Program) (r : Refusal) → length text ≤ limit → Spells text p → HasFault text r → ⊥
 no_fault text p r within spelled (too_long more) = omega (arith, within, more)
 no_fault text p r within spelled (faulty x le fault) = none_faulty text p x spelled fault
 
 answered_by : (shows : Bool) (text : List ℕ) (result : Status) (bytes : List ℕ) → Answers shows text result bytes → IsAnsweredBy text result
-answered_by shows text result bytes (proved p rs within spelled judged all) = record { spelled = λ p w s. inl (inl refl); faulty = λ r fault. absurd (no_fault text p r within spelled fault) }
-answered_by shows text result bytes (unknown p rs within spelled judged all) = record { spelled = λ p w s. inl (inr refl); faulty = λ r fault. absurd (no_fault text p r within spelled fault) }
-answered_by shows text result bytes (refused r fault) = record { spelled = λ p w s. absurd (no_fault text p r w s fault); faulty = λ r fault. inl refl }
+answered_by shows text result bytes (proved p rs within spelled judged all) = record { every = inl tt; spelled = λ p w s. inl (inl refl); faulty = λ r fault. absurd (no_fault text p r within spelled fault) }
+answered_by shows text result bytes (unknown p rs within spelled judged all) = record { every = inl tt; spelled = λ p w s. inl (inr refl); faulty = λ r fault. absurd (no_fault text p r within spelled fault) }
+answered_by shows text result bytes (refused r fault) = record { every = inl tt; spelled = λ p w s. absurd (no_fault text p r w s fault); faulty = λ r fault. inl refl }
 
 -- a text that is told is the one that was read
 pub file_answered : (shows : Bool) (told : Option (List ℕ)) (text : List ℕ) (result : Status) (bytes : List ℕ) → told ≡ Some text → AnswersFile shows told result bytes → IsAnsweredBy text result

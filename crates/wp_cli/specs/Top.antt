@@ -1,5 +1,5 @@
 -- What a call of the program leaves, by its status.
-use Rattle.std.specs.Prelude.{◌≡◌, ◌⊎◌, ℕ, ◌≤◌, Bool, true, List, length, Option, Some, IfSome, slice_get, option_and_then}
+use Rattle.std.specs.Prelude.{◌≡◌, ◌⊎◌, ℕ, ◌≤◌, Bool, true, false, List, length, Option, Some, IfSome, slice_get, option_and_then}
 use Rattle.std.specs.Io.KnownBytes.{Appends, IsAtEnd}
 use Rattle.wp_base.specs.declared.answers.Refusal.{Refusal}
 use Rattle.wp_base.specs.declared.answers.Status.{Status}
@@ -13,22 +13,9 @@ use Rattle.c_front.specs.Text.{Spells}
 use Rattle.wp_calculus.specs.Machine.{IsCorrect}
 use Rattle.wp_calculus.specs.Goals.{Goal, goals, formula_of}
 use Rattle.wp_calculus.specs.Theorems.{plain_setting, IsExact}
-use Rattle.wp_cli.specs.Report.{Judged, Reported, goals_proved, report_text}
+use Rattle.wp_cli.specs.Report.{Judged, Reported, all_proved, goals_proved, refusal_line, report_text}
 use Rattle.wp_cli.specs.Command.{file_named}
 use Rattle.wp_cli.specs.Answers.{limit, Answers, HasFault, IsReportOf}
-
--- a report was written
-abbrev pub OnReport : Status → Type 0 → Type 0
-OnReport status.AllProved P = P
-OnReport status.SomeUnknown P = P
-OnReport _ P = Unit {0}
-
--- a report or a refusal was written
-abbrev pub OnAnswer : Status → Type 0 → Type 0
-OnAnswer status.AllProved P = P
-OnAnswer status.SomeUnknown P = P
-OnAnswer status.Refused P = P
-OnAnswer _ P = Unit {0}
 
 -- what the file that the words name holds, where the words are a command and that is told
 abbrev pub told : {Self : Type 0} → (Self → List ℕ → Option (List ℕ)) → Self → List (List ℕ) → Option (List ℕ)
@@ -57,29 +44,12 @@ pub record AnswersFile (shows : Bool) (told : Option (List ℕ)) (result : Statu
   pub read : IsRead told text
   pub answer : Answers shows text result bytes
 
--- it was written whole
-pub record WritesAnswer (shows : Bool) (told before after : Option (List ℕ)) (result : Status) : Type 0 where
-  pub bytes : List ℕ
-  pub answered : AnswersFile shows told result bytes
-  pub written : Appends before after bytes
-
 -- a front of an answer was written, and not the whole
 pub record WritesFront (shows : Bool) (told before after : Option (List ℕ)) : Type 0 where
   pub result : Status
   pub bytes : List ℕ
   pub answered : AnswersFile shows told result bytes
   pub written : TakesFront before after bytes
-
--- The report of the program that the text spells was written, and of the program and the report this holds.
-pub record WritesReport (shows : Bool) (told before after : Option (List ℕ)) (Claim : Program → List Reported → Type 0) : Type 0 where
-  pub text : List ℕ
-  pub read : IsRead told text
-  pub program : Program
-  pub spelled : Spells text program
-  pub report : List Reported
-  pub judged : IsReportOf shows program report
-  pub written : Appends before after (report_text report)
-  pub claim : Claim program report
 
 -- ---- what the report says of the program
 
@@ -97,9 +67,53 @@ ProvedFunctionsAreCorrect p rs = (i : ℕ) (f : Function) (r : Reported) → sli
 abbrev pub GoalsAreExactIn : Program → List Reported → Type 0
 GoalsAreExactIn p rs = (i j : ℕ) (f : Function) (g : Goal) → slice_get p i ≡ Some f → slice_get (goals f) j ≡ Some g → IsExact f j g
 
+-- what a report says of its program
+pub record Claims (p : Program) (rs : List Reported) : Type 0 where
+  pub valid : ProvedGoalsAreValid p rs
+  pub correct : ProvedFunctionsAreCorrect p rs
+  pub exact : GoalsAreExactIn p rs
+
+-- ---- what was written
+
+-- The report of the program that the text spells was written whole, and what it claims of the program is so. `every`: each verdict in it is proved.
+pub record WritesReport (shows : Bool) (told before after : Option (List ℕ)) (every : Bool) : Type 0 where
+  pub text : List ℕ
+  pub read : IsRead told text
+  pub within : length text ≤ limit
+  pub program : Program
+  pub spelled : Spells text program
+  pub report : List Reported
+  pub judged : IsReportOf shows program report
+  pub all : all_proved report ≡ every
+  pub written : Appends before after (report_text report)
+  pub claims : Claims program report
+
+-- the line of the text's fault was written whole
+pub record WritesRefusal (told before after : Option (List ℕ)) : Type 0 where
+  pub text : List ℕ
+  pub read : IsRead told text
+  pub fault : Refusal
+  pub broken : HasFault text fault
+  pub written : Appends before after (refusal_line fault)
+
+-- by its status, what a call has written
+abbrev pub WritesAnswer : (shows : Bool) → (told before after : Option (List ℕ)) → Status → Type 0
+WritesAnswer shows told before after status.AllProved = WritesReport shows told before after true
+WritesAnswer shows told before after status.SomeUnknown = WritesReport shows told before after false
+WritesAnswer shows told before after status.Refused = WritesRefusal told before after
+WritesAnswer shows told before after _ = Unit {0}
+
 -- ---- what is answered to a text that is told
 
--- a text of the language is answered by its report, a faulty one by its refusal, unless memory runs out
+-- a report or a refusal
+abbrev pub IsAnswer : Status → Type 0
+IsAnswer status.AllProved = Unit {0}
+IsAnswer status.SomeUnknown = Unit {0}
+IsAnswer status.Refused = Unit {0}
+IsAnswer _ = ⊥
+
+-- Each text is answered: one of the language by its report, a faulty one by its refusal, unless memory runs out.
 pub record IsAnsweredBy (text : List ℕ) (result : Status) : Type 0 where
+  pub every : IsAnswer result ⊎ (result ≡ status.NoMemory)
   pub spelled : (p : Program) → length text ≤ limit → Spells text p → ((result ≡ status.AllProved) ⊎ (result ≡ status.SomeUnknown)) ⊎ (result ≡ status.NoMemory)
   pub faulty : (r : Refusal) → HasFault text r → (result ≡ status.Refused) ⊎ (result ≡ status.NoMemory)

@@ -2,8 +2,9 @@
 ghost use Rattle.std.specs.Prelude.{◌≡◌, ◌↔◌, ◌≤◌, ℕ, List, None, Some, IsTrue, IfOk};
 ghost use Rattle.std.specs.Option.{ForSome};
 ghost use Rattle.wp_io.specs.Faults.{Rose};
+ghost use Rattle.wp_io.specs.Reads.{SameNames};
 ghost use Rattle.wp_cli.specs.Command.{command_of as command, file_named as named, shows_goals as shows};
-ghost use Rattle.wp_cli.specs.Top.{AnswersFile, GoalsAreExactIn, IsAnsweredBy, OnAnswer, OnReport, ProvedFunctionsAreCorrect, ProvedGoalsAreValid, ReadsEnough, WritesAnswer, WritesFront, WritesReport, told};
+ghost use Rattle.wp_cli.specs.Top.{AnswersFile, IsAnsweredBy, ReadsEnough, WritesAnswer, WritesFront, told};
 ghost use Rattle.wp_cli.specs.declared.top.Unread.TheVariants as unread;
 
 use crate::answer::{Answer, text_answer, too_long_answer};
@@ -50,6 +51,7 @@ fn file_answer<F: Files>(
     ensures read { IfOk result (λ answer. ReadsEnough answer.status (F.holds files.old name.now) (F.left files.new)) }
     ensures fault { result ≡ Err Unread.ReadFault → Rose (F.faults files.old) (F.faults files.new) }
     ensures later { F.faults files.old ≤ F.faults files.new }
+    ensures names { SameNames (F.may_open files.old) (F.may_open files.new) (F.holds files.old) (F.holds files.new) }
 {
     files.open(name)?;
     match read_all(alloc, files, LIMIT) {
@@ -69,7 +71,7 @@ fn file_answer<F: Files>(
 /// What a run of the program does: it finds the file that the words name, reads it, finds the answer
 /// to its text, a report or a refusal, and writes it. The answer to an earlier step is given: words,
 /// opening and reading, faults of the text, goals, writing. `NoMemory` may stand before any but the
-/// first and the last. It may be called again after any answer.
+/// first and the last.
 ///
 /// A command is `[--goals] [--] FILE`, the options and the file in any order, each at most once: `--`
 /// ends the options, only after it FILE may begin with `-`, and it isn't `-` alone; all words are UTF-8.
@@ -90,13 +92,9 @@ pub fn wp_main<F: Files, K: Sink>(
     // How much was read.
     ensures read { ReadsEnough result (told F.holds files.old words.now) (F.left files.new) }
 
-    // What is written is the answer to the text that was read.
-    ensures answered { OnAnswer result (WritesAnswer (shows words.now) (told F.holds files.old words.now) (K.taken out.old) (K.taken out.new) result) }
-
-    // What the report says of the program.
-    ensures proved_goals { OnReport result (WritesReport (shows words.now) (told F.holds files.old words.now) (K.taken out.old) (K.taken out.new) ProvedGoalsAreValid) }
-    ensures proved_functions { OnReport result (WritesReport (shows words.now) (told F.holds files.old words.now) (K.taken out.old) (K.taken out.new) ProvedFunctionsAreCorrect) }
-    ensures exact_goals { OnReport result (WritesReport (shows words.now) (told F.holds files.old words.now) (K.taken out.old) (K.taken out.new) GoalsAreExactIn) }
+    // What is written is the answer to the text that was read: the report of the program that it spells, of which all that the report
+    // claims is so, or the line of its fault.
+    ensures answered { WritesAnswer (shows words.now) (told F.holds files.old words.now) (K.taken out.old) (K.taken out.new) result }
 
     // Faults.
     ensures read_fault { result ≡ Status.ReadFault → Rose (F.faults files.old) (F.faults files.new) }
@@ -104,6 +102,11 @@ pub fn wp_main<F: Files, K: Sink>(
     ensures write_fault { result ≡ Status.WriteFault → Rose (K.faults out.old) (K.faults out.new) }
     ensures front { result ≡ Status.WriteFault → WritesFront (shows words.now) (told F.holds files.old words.now) (K.taken out.old) (K.taken out.new) }
     ensures no_memory_unwritten { result ≡ Status.NoMemory → out.new ≡ out.old }
+
+    // It may be called again: names and what they hold are as before, and no count of faults falls.
+    ensures names { SameNames (F.may_open files.old) (F.may_open files.new) (F.holds files.old) (F.holds files.new) }
+    ensures later_files { F.faults files.old ≤ F.faults files.new }
+    ensures later_out { K.faults out.old ≤ K.faults out.new }
 
     // A command whose file tells its text is answered, unless a fault was counted or memory ran out.
     ensures complete { (text : List ℕ) → told F.holds files.old words.now ≡ Some text

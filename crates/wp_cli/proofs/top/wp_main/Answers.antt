@@ -2,33 +2,17 @@ use Rattle.std.proofs.Common.{ℕ, List, sym, subst}
 use Rattle.std.specs.Io.KnownBytes.{Appends}
 use Rattle.wp_cli.specs.Command.{shows_goals}
 use Rattle.wp_cli.specs.CommandView.{view_command}
-use Rattle.wp_cli.specs.Top.{told, ProvedGoalsAreValid, ProvedFunctionsAreCorrect, GoalsAreExactIn}
-use Rattle.wp_cli.proofs.Claims.{words_answered, report_claim, valid_claim, correct_claim, exact_claim, file_answered, no_write_fault}
+use Rattle.wp_cli.specs.Top.{told}
+use Rattle.wp_cli.proofs.Claims.{words_answered, answer_written, file_answered, no_write_fault}
 use Rattle.wp_cli.proofs.top.wp_main.Goals as goal
 
-pub returns-in-Ok-write_all-clause-proved_goals : goal.returns-in-Ok-write_all-clause-proved_goals
-returns-in-Ok-write_all-clause-proved_goals g c =
+pub returns-in-Ok-write_all-clause-answered : goal.returns-in-Ok-write_all-clause-answered
+returns-in-Ok-write_all-clause-answered g c =
     let answer = c.in-Ok.answer in
     let words = c.args.words.now in
     let file = words_answered g.F.Files.holds c.args.files.now words (view_command c.in-Some.command) answer.status answer.text (sym c.in-Some.ensures) c.in-Ok.ensures.answer in
     let written = subst (λ (bytes : List ℕ). Appends (g.K.Sink.taken c.args.out.now) (g.K.Sink.taken c.write_all.new.out) bytes) c.bytes.ensures c.in-Ok-write_all.ensures.whole in
-    report_claim (shows_goals words) (told g.F.Files.holds c.args.files.now words) (g.K.Sink.taken c.args.out.now) (g.K.Sink.taken c.write_all.new.out) answer.status answer.text ProvedGoalsAreValid (valid_claim (shows_goals words)) file written
-
-pub returns-in-Ok-write_all-clause-proved_functions : goal.returns-in-Ok-write_all-clause-proved_functions
-returns-in-Ok-write_all-clause-proved_functions g c =
-    let answer = c.in-Ok.answer in
-    let words = c.args.words.now in
-    let file = words_answered g.F.Files.holds c.args.files.now words (view_command c.in-Some.command) answer.status answer.text (sym c.in-Some.ensures) c.in-Ok.ensures.answer in
-    let written = subst (λ (bytes : List ℕ). Appends (g.K.Sink.taken c.args.out.now) (g.K.Sink.taken c.write_all.new.out) bytes) c.bytes.ensures c.in-Ok-write_all.ensures.whole in
-    report_claim (shows_goals words) (told g.F.Files.holds c.args.files.now words) (g.K.Sink.taken c.args.out.now) (g.K.Sink.taken c.write_all.new.out) answer.status answer.text ProvedFunctionsAreCorrect (correct_claim (shows_goals words)) file written
-
-pub returns-in-Ok-write_all-clause-exact_goals : goal.returns-in-Ok-write_all-clause-exact_goals
-returns-in-Ok-write_all-clause-exact_goals g c =
-    let answer = c.in-Ok.answer in
-    let words = c.args.words.now in
-    let file = words_answered g.F.Files.holds c.args.files.now words (view_command c.in-Some.command) answer.status answer.text (sym c.in-Some.ensures) c.in-Ok.ensures.answer in
-    let written = subst (λ (bytes : List ℕ). Appends (g.K.Sink.taken c.args.out.now) (g.K.Sink.taken c.write_all.new.out) bytes) c.bytes.ensures c.in-Ok-write_all.ensures.whole in
-    report_claim (shows_goals words) (told g.F.Files.holds c.args.files.now words) (g.K.Sink.taken c.args.out.now) (g.K.Sink.taken c.write_all.new.out) answer.status answer.text GoalsAreExactIn (exact_claim (shows_goals words)) file written
+    answer_written (shows_goals words) (told g.F.Files.holds c.args.files.now words) (g.K.Sink.taken c.args.out.now) (g.K.Sink.taken c.write_all.new.out) answer.status answer.text file written
 
 pub returns-in-Ok-write_all-clause-complete : goal.returns-in-Ok-write_all-clause-complete
 returns-in-Ok-write_all-clause-complete g c text is none none' =

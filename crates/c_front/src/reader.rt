@@ -3,6 +3,7 @@ ghost use Rattle.std.specs.Prelude.{◌≡◌, ◌≤◌, ℕ, List, length, IfO
 ghost use Rattle.core_prog.specs.Tree as t;
 ghost use Rattle.core_prog.specs.View.{view_program};
 ghost use Rattle.c_syntax.specs.View as tree;
+ghost use Rattle.c_lexer.specs.Tokens.{most_bytes};
 ghost use Rattle.c_core.specs.Made.{Makes};
 ghost use Rattle.c_front.specs.Text as spec;
 ghost use Rattle.c_front.specs.Text.{HasFault, Spells, SpellsOrHasFault};
@@ -29,7 +30,7 @@ fn built(alloc: Global, program: &Program) -> Result<Core, Unmade>
 
 /// Reads a text: the program that is to be verified, or the fault of the text.
 pub fn read_program(alloc: Global, text: &[u8]) -> Result<Core, Stop>
-    requires { length text.now ≤ 1048576 }
+    requires { length text.now ≤ most_bytes }
     // What is read is what the text spells.
     ensures spelled { IfOk result (λ core. Spells text.now (view_program core)) }
     // A text is refused by its fault.

@@ -67,6 +67,10 @@ answer room (fault refusal ∷ items) = Err refusal
 answer zero (token t ∷ items) = Err (record { rule = rule.Limit; line = t.line })
 answer (suc room) (token t ∷ items) = put_first t (answer room items)
 
+-- how many bytes and how many tokens a text may have
+abbrev pub most_bytes : ℕ
+most_bytes = 1048576
+
 abbrev pub most_tokens : ℕ
 most_tokens = 200000
 

@@ -17,8 +17,11 @@ use c_syntax::{Token, TokenKind, Tokens};
 use std::alloc::Global;
 use wp_base::{Line, List, Refusal, Rule, Stop};
 
+/// How many bytes a text may have.
+pub const MOST_BYTES: usize = 1_048_576;
+
 /// How many tokens a text may have.
-const MOST_TOKENS: usize = 200_000;
+pub const MOST_TOKENS: usize = 200_000;
 
 fn refused(rule: Rule, line: Line) -> Stop
     ensures { result ≡ Stop.Refused (record { rule = rule; line = line }) }
@@ -204,7 +207,7 @@ fn step(
 /// The tokens of a text (C11 6.4; in annotations ACSL 2.2), or the first of its faults: a place where
 /// no token begins or a comment isn't closed, a refused word, or a token past the limit.
 pub fn lex(alloc: Global, text: &[u8]) -> Result<Tokens, Stop>
-    requires { length text.now ≤ 1048576 }
+    requires { length text.now ≤ spec.most_bytes }
     ensures { MatchResult result (λ tokens. spec.tokens_of text.now ≡ Ok tokens) (λ stop. spec.StopsWith stop (spec.tokens_of text.now)) }
 {
     let mut tokens = List::new(alloc);

@@ -12,4 +12,4 @@ mod place;
 mod rows;
 mod tables;
 
-pub use lexer::lex;
+pub use lexer::{MOST_BYTES, MOST_TOKENS, lex};

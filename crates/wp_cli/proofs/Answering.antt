@@ -8,23 +8,24 @@ use Rattle.wp_base.specs.declared.answers.Refusal.{Refusal}
 use Rattle.wp_base.specs.declared.answers.Rule.TheVariants as rule
 use Rattle.wp_base.specs.declared.answers.Status.{Status}
 use Rattle.wp_base.specs.declared.answers.Status.TheVariants as status
+use Rattle.c_lexer.specs.Tokens.{most_bytes}
 use Rattle.core_prog.specs.Tree.{Program}
 use Rattle.c_front.specs.Text.{Spells}
 use Rattle.wp_cli.specs.declared.answer.Answer.{Answer}
 use Rattle.wp_cli.specs.Report.{all_proved, report_text, refusal_line}
 use Rattle.wp_cli.specs.AnswerView.{status_of, ReportAnswers}
 use Rattle.wp_cli.specs.Top.{AnswersFile}
-use Rattle.wp_cli.specs.Answers.{limit, HasFault, too_long, Answers, proved, unknown, refused}
+use Rattle.wp_cli.specs.Answers.{HasFault, too_long, Answers, proved, unknown, refused}
 
 -- a report answers the text that spells the program
-pub report_answers : (shows : Bool) (text : List ℕ) (p : Program) (result : Status) (bytes : List ℕ) → length text ≤ limit → Spells text p → ReportAnswers shows p result bytes → Answers shows text result bytes
+pub report_answers : (shows : Bool) (text : List ℕ) (p : Program) (result : Status) (bytes : List ℕ) → length text ≤ most_bytes → Spells text p → ReportAnswers shows p result bytes → Answers shows text result bytes
 report_answers shows text p result bytes within spelled a = by (all_proved a.report) refl a.status
   where
     by : (b : Bool) → all_proved a.report ≡ b → result ≡ status_of b → Answers shows text result bytes
     by true e s = subst (λ t. Answers shows text result t) (sym a.text) (subst (λ s. Answers shows text s (report_text a.report)) (sym s) (proved p a.report within spelled a.judged e))
     by false e s = subst (λ t. Answers shows text result t) (sym a.text) (subst (λ s. Answers shows text s (report_text a.report)) (sym s) (unknown p a.report within spelled a.judged e))
 
-pub report_answers_ok : (shows : Bool) (text : List ℕ) (p : Program) (r : Result Answer NoMemory) → length text ≤ limit → Spells text p → IfOk r (λ a. ReportAnswers shows p a.status a.text) → IfOk r (λ a. Answers shows text a.status a.text)
+pub report_answers_ok : (shows : Bool) (text : List ℕ) (p : Program) (r : Result Answer NoMemory) → length text ≤ most_bytes → Spells text p → IfOk r (λ a. ReportAnswers shows p a.status a.text) → IfOk r (λ a. Answers shows text a.status a.text)
 report_answers_ok shows text p (Ok a) within spelled h = report_answers shows text p a.status a.text within spelled h
 report_answers_ok shows text p (Err e) within spelled h = tt
 
@@ -34,14 +35,14 @@ refusal_answers shows text r (Ok a) s t fault = subst (λ s. Answers shows text 
 refusal_answers shows text r (Err e) s t fault = tt
 
 pub too_long_answers : (r : Refusal) (answer : Result Answer NoMemory) → r ≡ record { rule = rule.Limit; line = 1 } → IfOk answer (λ a. a.status ≡ status.Refused) → IfOk answer (λ a. a.text ≡ refusal_line r)
-    → IfOk answer (λ a. (text : List ℕ) → limit < length text → (shows : Bool) → Answers shows text a.status a.text)
+    → IfOk answer (λ a. (text : List ℕ) → most_bytes < length text → (shows : Bool) → Answers shows text a.status a.text)
 too_long_answers r (Ok a) is s t = λ text more shows. refusal_answers shows text r (Ok a) s t (subst (HasFault text) (sym is) (too_long more))
 too_long_answers r (Err e) is s t = tt
 
 -- a file of which too much was taken is answered as too long
-pub too_long_file : (shows : Bool) (told opened left : Option (List ℕ)) (result : Status) (bytes : List ℕ) → IfSome told (λ text. opened ≡ Some text) → TakesMore opened left limit
-    → ((text : List ℕ) → limit < length text → (shows : Bool) → Answers shows text result bytes) → AnswersFile shows told result bytes
+pub too_long_file : (shows : Bool) (told opened left : Option (List ℕ)) (result : Status) (bytes : List ℕ) → IfSome told (λ text. opened ≡ Some text) → TakesMore opened left most_bytes
+    → ((text : List ℕ) → most_bytes < length text → (shows : Bool) → Answers shows text result bytes) → AnswersFile shows told result bytes
 too_long_file shows None opened left result bytes whole more says = record { text = more.bytes; read = tt; answer = says more.bytes more.more shows }
 too_long_file shows (Some held) opened left result bytes whole more says =
-    let longer : limit < length held = subst (λ (o : Option (List ℕ)). IfSome o (λ text. limit < length text)) whole more.longer in
+    let longer : most_bytes < length held = subst (λ (o : Option (List ℕ)). IfSome o (λ text. most_bytes < length text)) whole more.longer in
     record { text = held; read = refl; answer = says held longer shows }

@@ -7,6 +7,7 @@ use Rattle.std.proofs.lemmas.Bool.{false≢true, and_parts}
 use Rattle.wp_base.specs.declared.answers.Refusal.{Refusal}
 use Rattle.wp_base.specs.declared.answers.Status.{Status}
 use Rattle.wp_base.specs.declared.answers.Status.TheVariants as status
+use Rattle.c_lexer.specs.Tokens.{most_bytes}
 use Rattle.qed_terms.specs.declared.verdict.Verdict.{Verdict}
 use Rattle.qed_terms.specs.declared.verdict.Verdict.TheVariants as verdict
 use Rattle.qed_terms.specs.Tree.{Tree, true_tree}
@@ -22,7 +23,7 @@ use Rattle.wp_calculus.specs.Theorems.{plain_setting, NoneFailsAt}
 use Rattle.wp_calculus.proofs.Exact.{goals_are_exact, failures_have_goals}
 use Rattle.wp_calculus.proofs.Runs.{segments_to_runs}
 use Rattle.wp_cli.specs.Report.{Judged, Reported, is_proved, goals_proved}
-use Rattle.wp_cli.specs.Answers.{limit, IsProved, IsVerdict, IsJudged, AreJudged, IsReported, IsReportOf, HasFault, too_long, faulty, Answers, proved, unknown, refused}
+use Rattle.wp_cli.specs.Answers.{IsProved, IsVerdict, IsJudged, AreJudged, IsReported, IsReportOf, HasFault, too_long, faulty, Answers, proved, unknown, refused}
 use Rattle.wp_cli.specs.Command.{Command, command_of, asks, shows_goals}
 use Rattle.wp_cli.proofs.Judging.{each_at, partner_at}
 use Rattle.wp_cli.specs.Top.{told, IsRead, AnswersFile, WritesAnswer, Claims, ProvedGoalsAreValid, ProvedFunctionsAreCorrect, GoalsAreExactIn, IsAnsweredBy}
@@ -88,7 +89,7 @@ answer_written shows told before after result bytes file written = by result byt
         record { text = file.text; read = file.read; within = within; program = p; spelled = spelled; report = rs; judged = judged; all = all; written = w; claims = claims shows file.text p rs spelled judged }
     by result bytes (refused r fault) w = record { text = file.text; read = file.read; fault = r; broken = fault; written = w }
 
-no_fault : (text : List ℕ) (p : Program) (r : Refusal) → length text ≤ limit → Spells text p → HasFault text r → ⊥
+no_fault : (text : List ℕ) (p : Program) (r : Refusal) → length text ≤ most_bytes → Spells text p → HasFault text r → ⊥
 no_fault text p r within spelled (too_long more) = omega (arith, within, more)
 no_fault text p r within spelled (faulty x le fault) = none_faulty text p x spelled fault
 

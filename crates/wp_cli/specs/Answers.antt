@@ -4,6 +4,7 @@ use Rattle.wp_base.specs.declared.answers.Refusal.{Refusal}
 use Rattle.wp_base.specs.declared.answers.Rule.TheVariants as rule
 use Rattle.wp_base.specs.declared.answers.Status.{Status}
 use Rattle.wp_base.specs.declared.answers.Status.TheVariants as status
+use Rattle.c_lexer.specs.Tokens.{most_bytes}
 use Rattle.qed_terms.specs.declared.verdict.Verdict.{Verdict}
 use Rattle.qed_terms.specs.declared.verdict.Verdict.TheVariants as verdict
 use Rattle.qed_terms.specs.Tree.{Tree, true_tree, goal_of}
@@ -16,10 +17,6 @@ use Rattle.goal_text.specs.Text.{goal_text}
 use Rattle.wp_calculus.specs.Segments.{Place}
 use Rattle.wp_calculus.specs.Goals.{Goal, goals}
 use Rattle.wp_cli.specs.Report.{Judged, Reported, all_proved, report_text, refusal_line}
-
--- how many bytes a text may have
-abbrev pub limit : ℕ
-limit = 1048576
 
 -- ---- verdicts
 
@@ -68,13 +65,13 @@ IsReportOf shows = EachIsSo (IsReported shows)
 
 -- The one fault of a text: it is too long, which is said of line 1, or it has a fault of tokens, of grammar, of a limit, or isn't built.
 pub data HasFault (text : List ℕ) : Refusal → Type 0 where
-  too_long : limit < length text → HasFault text (record { rule = rule.Limit; line = 1 })
-  faulty : (r : Refusal) → length text ≤ limit → front.HasFault text r → HasFault text r
+  too_long : most_bytes < length text → HasFault text (record { rule = rule.Limit; line = 1 })
+  faulty : (r : Refusal) → length text ≤ most_bytes → front.HasFault text r → HasFault text r
 
 -- ---- answers
 
 -- the status and the bytes that answer a text, with goals shown or not
 pub data Answers (shows : Bool) (text : List ℕ) : Status → List ℕ → Type 0 where
-  proved : (p : Program) (rs : List Reported) → length text ≤ limit → Spells text p → IsReportOf shows p rs → all_proved rs ≡ true → Answers shows text status.AllProved (report_text rs)
-  unknown : (p : Program) (rs : List Reported) → length text ≤ limit → Spells text p → IsReportOf shows p rs → all_proved rs ≡ false → Answers shows text status.SomeUnknown (report_text rs)
+  proved : (p : Program) (rs : List Reported) → length text ≤ most_bytes → Spells text p → IsReportOf shows p rs → all_proved rs ≡ true → Answers shows text status.AllProved (report_text rs)
+  unknown : (p : Program) (rs : List Reported) → length text ≤ most_bytes → Spells text p → IsReportOf shows p rs → all_proved rs ≡ false → Answers shows text status.SomeUnknown (report_text rs)
   refused : (r : Refusal) → HasFault text r → Answers shows text status.Refused (refusal_line r)

@@ -6,6 +6,7 @@ use Rattle.wp_base.specs.declared.answers.Status.{Status}
 use Rattle.wp_base.specs.declared.answers.Status.TheVariants as status
 use Rattle.wp_io.specs.Reads.{TakesMore}
 use Rattle.wp_io.specs.Writes.{TakesFront}
+use Rattle.c_lexer.specs.Tokens.{most_bytes}
 use Rattle.qed_terms.specs.declared.verdict.Verdict.TheVariants as verdict
 use Rattle.qed_terms.specs.Setting.{Valid}
 use Rattle.core_prog.specs.Tree.{Program, Function}
@@ -15,7 +16,7 @@ use Rattle.wp_calculus.specs.Goals.{Goal, goals, formula_of}
 use Rattle.wp_calculus.specs.Theorems.{plain_setting, IsExact}
 use Rattle.wp_cli.specs.Report.{Judged, Reported, all_proved, goals_proved, refusal_line, report_text}
 use Rattle.wp_cli.specs.Command.{file_named}
-use Rattle.wp_cli.specs.Answers.{limit, Answers, HasFault, IsReportOf}
+use Rattle.wp_cli.specs.Answers.{Answers, HasFault, IsReportOf}
 
 -- what the file that the words name holds, where the words are a command and that is told
 abbrev pub told : {Self : Type 0} → (Self → List ℕ → Option (List ℕ)) → Self → List (List ℕ) → Option (List ℕ)
@@ -29,7 +30,7 @@ IsRead told text = IfSome told (λ held. held ≡ text)
 pub record TookTooMuch (told left : Option (List ℕ)) : Type 0 where
   pub opened : Option (List ℕ)
   pub whole : IfSome told (λ held. opened ≡ Some held)
-  pub more : TakesMore opened left limit
+  pub more : TakesMore opened left most_bytes
 
 -- For a report the text was read to its end; for a refusal it was, or too much of it was taken.
 abbrev pub ReadsEnough : Status → Option (List ℕ) → Option (List ℕ) → Type 0
@@ -79,7 +80,7 @@ pub record Claims (p : Program) (rs : List Reported) : Type 0 where
 pub record WritesReport (shows : Bool) (told before after : Option (List ℕ)) (every : Bool) : Type 0 where
   pub text : List ℕ
   pub read : IsRead told text
-  pub within : length text ≤ limit
+  pub within : length text ≤ most_bytes
   pub program : Program
   pub spelled : Spells text program
   pub report : List Reported
@@ -115,5 +116,5 @@ IsAnswer _ = ⊥
 -- Each text is answered: one of the language by its report, a faulty one by its refusal, unless memory runs out.
 pub record IsAnsweredBy (text : List ℕ) (result : Status) : Type 0 where
   pub every : IsAnswer result ⊎ (result ≡ status.NoMemory)
-  pub spelled : (p : Program) → length text ≤ limit → Spells text p → ((result ≡ status.AllProved) ⊎ (result ≡ status.SomeUnknown)) ⊎ (result ≡ status.NoMemory)
+  pub spelled : (p : Program) → length text ≤ most_bytes → Spells text p → ((result ≡ status.AllProved) ⊎ (result ≡ status.SomeUnknown)) ⊎ (result ≡ status.NoMemory)
   pub faulty : (r : Refusal) → HasFault text r → (result ≡ status.Refused) ⊎ (result ≡ status.NoMemory)

@@ -1,7 +1,8 @@
 // The answer to a text.
 ghost use Rattle.std.specs.Prelude.{◌≡◌, ◌≤◌, ◌<◌, ℕ, Bool, List, IfOk, length, map};
 ghost use Rattle.core_prog.specs.View.{view_program};
-ghost use Rattle.wp_cli.specs.Answers.{Answers, limit};
+ghost use Rattle.c_lexer.specs.Tokens.{most_bytes};
+ghost use Rattle.wp_cli.specs.Answers.{Answers};
 ghost use Rattle.wp_cli.specs.AnswerView.{ReportAnswers};
 ghost use Rattle.wp_cli.specs.Report as spec;
 ghost use Rattle.wp_cli.specs.ReportView.{view_function, view_goal};
@@ -73,7 +74,7 @@ fn refusal_answer(alloc: Global, refusal: Refusal) -> Result<Answer, NoMemory>
 
 /// The answer to a text that is too long.
 pub fn too_long_answer(alloc: Global) -> Result<Answer, NoMemory>
-    ensures answer { IfOk result (λ answer. (text : List ℕ) → limit < length text → (shows : Bool) → Answers shows text answer.status answer.text) }
+    ensures answer { IfOk result (λ answer. (text : List ℕ) → most_bytes < length text → (shows : Bool) → Answers shows text answer.status answer.text) }
     ensures status { IfOk result (λ answer. answer.status ≡ Status.Refused) }
 {
     refusal_answer(
@@ -88,7 +89,7 @@ pub fn too_long_answer(alloc: Global) -> Result<Answer, NoMemory>
 /// The answer to a text: the report of the program that it spells, with its goals where they are to be
 /// shown, or the line that refuses it.
 pub fn text_answer(alloc: Global, text: &[u8], shows_goals: bool) -> Result<Answer, NoMemory>
-    requires { length text.now ≤ limit }
+    requires { length text.now ≤ most_bytes }
     ensures { IfOk result (λ answer. Answers shows_goals text.now answer.status answer.text) }
 {
     match read_program(alloc, text) {

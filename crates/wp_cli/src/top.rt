@@ -9,12 +9,10 @@ ghost use Rattle.wp_cli.specs.declared.top.Unread.TheVariants as unread;
 
 use crate::answer::{Answer, text_answer, too_long_answer};
 use crate::words::command_of;
+use c_lexer::MOST_BYTES;
 use std::alloc::Global;
 use wp_base::{NoMemory, Status, Str};
 use wp_io::{Failed, Files, ReadEnd, Sink, read_all, write_all};
-
-/// How many bytes a text may have.
-const LIMIT: usize = 1_048_576;
 
 /// Why there is no answer.
 #[derive(Clone, Copy, Debug, PartialEq, Eq)]
@@ -54,7 +52,7 @@ fn file_answer<F: Files>(
     ensures names { SameNames (F.may_open files.old) (F.may_open files.new) (F.holds files.old) (F.holds files.new) }
 {
     files.open(name)?;
-    match read_all(alloc, files, LIMIT) {
+    match read_all(alloc, files, MOST_BYTES) {
         Ok(text) => {
             let answer = text_answer(alloc, text.as_slice(), shows_goals)?;
             Ok(answer)

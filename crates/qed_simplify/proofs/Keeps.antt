@@ -8,7 +8,7 @@ use Rattle.qed_terms.specs.declared.head.FormOp.TheVariants as form
 use Rattle.qed_terms.specs.declared.head.Sort.TheVariants as sort
 use Rattle.qed_terms.specs.Tree.{Tree, node, Trees, stop, more, trees_of, list_of, head_of, kids_in, two, three, num, at_most, equal, true_tree, false_tree, not_of}
 use Rattle.qed_terms.specs.Operators.{is_zero, is_equal}
-use Rattle.qed_terms.specs.Memory.{to_nat, same_truth}
+use Rattle.wp_base.specs.Blocks.{to_nat, same_truth}
 use Rattle.qed_terms.specs.Meaning.{World, Values, with_int, Value, Whole, Truth, is_so, value, truth, meaning, meanings, each_true, some_true, all_from, some_from}
 use Rattle.qed_terms.proofs.Lists.{trees_of-list_of}
 use Rattle.qed_terms.specs.Order.{same}

@@ -4,7 +4,7 @@ use Rattle.std.specs.Str.{bytes_eq}
 use Rattle.qed_terms.specs.declared.head.Sort.{Sort}
 use Rattle.qed_terms.specs.declared.head.Sort.TheVariants as sort
 use Rattle.qed_terms.specs.declared.head.Head.TheVariants as h
-use Rattle.qed_terms.specs.Memory.{to_nat}
+use Rattle.wp_base.specs.Blocks.{to_nat}
 use Rattle.qed_terms.specs.Meaning.{World, Values, Whole, Truth, value_of, with_int, whole, is_so, term_value, form_truth, head_value, all_from, some_from, meaning, meanings}
 use Rattle.qed_terms.specs.WellFormed.{same_sort}
 use Rattle.qed_terms.specs.Free.{is_free, free_among, AgreeOn, MeaningOfFreeNames}

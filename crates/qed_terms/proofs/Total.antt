@@ -18,7 +18,7 @@ use Rattle.qed_terms.specs.declared.head.Head.{Head}
 use Rattle.qed_terms.specs.declared.head.Head.TheVariants as h
 use Rattle.qed_terms.specs.declared.head.TermOp.TheVariants as op
 use Rattle.qed_terms.specs.declared.head.FormOp.TheVariants as form
-use Rattle.qed_terms.specs.Memory.{to_nat}
+use Rattle.wp_base.specs.Blocks.{to_nat}
 use Rattle.qed_terms.specs.Tree.{Tree, node, Trees, stop, more}
 use Rattle.qed_terms.specs.Order.{rank, number_in, name_in, back_in, layout_back, shape_place, first_of, rest_of, front_cmp, back_cmp, tree_cmp, kids_cmp, same, OrderIsTotal}
 

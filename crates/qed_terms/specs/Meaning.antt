@@ -14,7 +14,8 @@ use Rattle.qed_terms.specs.declared.head.TermOp.{TermOp}
 use Rattle.qed_terms.specs.declared.head.TermOp.TheVariants as op
 use Rattle.qed_terms.specs.declared.head.FormOp.{FormOp}
 use Rattle.qed_terms.specs.declared.head.FormOp.TheVariants as form
-use Rattle.qed_terms.specs.Memory.{Memory, load, store, same_memory, Table, count, len, is_live, is_cell, is_writable, alloc, grow, has_layout, is_well_formed, are_well_formed, Region, cells, new, agree_outside, same_truth, to_nat}
+use Rattle.wp_base.specs.Blocks.{Table, count, len, is_live, is_cell, is_writable, alloc, grow, has_layout, same_truth, to_nat}
+use Rattle.qed_terms.specs.Memory.{Memory, load, store, same_memory, is_well_formed, are_well_formed, Region, cells, new, agree_outside}
 use Rattle.qed_terms.specs.Operators.{is_equal, total, product, quotient, remainder, shifted_left, shifted_right, both_bits, either_bit, one_bit, turned_bits}
 use Rattle.qed_terms.specs.Tree.{Tree, node, Trees, stop, more}
 

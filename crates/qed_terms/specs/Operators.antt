@@ -3,7 +3,7 @@
 use Rattle.std.specs.Prelude.{◌≡◌, ◌<◌, unsigned_abs, neg_ℤ, ℕ, zero, suc, ◌^◌, Bool, true, false, if◌then◌else◌, ℤ, pos, negsuc, ◌+ℤ◌, ◌-ℤ◌, ◌*ℤ◌, int_div, int_rem, List, [], ◌∷◌}
 use Rattle.std.specs.Int.Bits.{bit_and, bit_or, bit_xor}
 use Rattle.wp_base.specs.Kinds.{floor_div}
-use Rattle.qed_terms.specs.Memory.{to_nat}
+use Rattle.wp_base.specs.Blocks.{to_nat}
 
 abbrev pub is_zero : ℤ → Bool
 is_zero (pos zero) = true

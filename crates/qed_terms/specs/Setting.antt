@@ -7,7 +7,7 @@ use Rattle.qed_terms.specs.declared.head.Sort.TheVariants as sort
 use Rattle.qed_terms.specs.declared.head.Head.{Head}
 use Rattle.qed_terms.specs.declared.head.Head.TheVariants as h
 use Rattle.qed_terms.specs.declared.head.TermOp.TheVariants as op
-use Rattle.qed_terms.specs.Memory.{Table, len, to_nat}
+use Rattle.wp_base.specs.Blocks.{Table, len, to_nat}
 use Rattle.qed_terms.specs.Operators.{is_equal}
 use Rattle.qed_terms.specs.Meaning.{Value, Whole, Truth, Cells, Blocks, whole, Values, with_int, World, value, truth}
 use Rattle.qed_terms.specs.Names.{is_name, is_memory_name}

@@ -6,7 +6,7 @@ use Rattle.std.specs.List.{list_all}
 use Rattle.std.proofs.lemmas.Bool.{false≢true, le-leb}
 use Rattle.std.proofs.lemmas.List.{map-append, append-nil, append_cancel_right}
 use Rattle.qed_terms.specs.Tree.{Tree, var, false_tree}
-use Rattle.qed_terms.specs.Memory.{Table, block_at, len}
+use Rattle.wp_base.specs.Blocks.{Table, block_at, len}
 use Rattle.qed_terms.specs.Fresh.{none_used}
 use Rattle.qed_terms.specs.Meaning.{Values}
 use Rattle.qed_terms.specs.Setting.{cells_at_most, IsBounded, Valid}

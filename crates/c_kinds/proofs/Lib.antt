@@ -1,0 +1,4 @@
+pub mod Converting
+pub mod Examples
+pub mod Laying
+pub mod Ranking

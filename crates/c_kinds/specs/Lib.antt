@@ -1,0 +1,4 @@
+pub mod Models
+pub mod Conversions
+pub mod Layouts
+pub mod Laws

@@ -1,0 +1,16 @@
+//! Floor 3, program: the kinds of integers in both data models, conversions between them, and the cells of structs.
+#![tactic(auto)]
+
+mod conversions;
+mod laws;
+mod layouts;
+mod models;
+mod numbers;
+mod ranges;
+
+pub use conversions::{common, promote};
+pub use laws::{common_is_common, conversions_keep, promotion_keeps, structs_are_in_order};
+pub use layouts::{MOST_CELLS, StructLayout, cells_of, field_offset};
+pub use models::{Machdep, Range};
+pub use numbers::convert;
+pub use ranges::range;

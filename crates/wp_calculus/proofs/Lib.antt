@@ -13,7 +13,11 @@ pub mod Reaching
 pub mod Returning
 pub mod Entering
 pub mod Exact
+pub mod Present
+pub mod Standing
+pub mod Evaluating
 pub mod Runs
+pub mod Failures
 pub mod Variables
 pub mod Claimed
 pub mod Given_names

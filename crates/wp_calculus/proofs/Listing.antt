@@ -16,15 +16,15 @@ use Rattle.wp_calculus.specs.Goals.{World, world, named, entered, used_by_entry,
 use Rattle.wp_calculus.specs.Theorems.{GoalsAreTheChecks}
 use Rattle.wp_calculus.proofs.Asking.{In}
 
-length_unless : {X Y : Type 0} (c : Option ℤ) (xs : List X) (ys : List Y) → length xs ≡ length ys → length (unless_constant c xs) ≡ length (unless_constant c ys)
+pub length_unless : {X Y : Type 0} (c : Option ℤ) (xs : List X) (ys : List Y) → length xs ≡ length ys → length (unless_constant c xs) ≡ length (unless_constant c ys)
 length_unless None xs ys h = h
 length_unless (Some z) xs ys h = refl
 
-length_where : {X Y : Type 0} (b : Bool) (x : X) (y : Y) → length (cond b (x ∷ []) []) ≡ length (cond b (y ∷ []) [])
+pub length_where : {X Y : Type 0} (b : Bool) (x : X) (y : Y) → length (cond b (x ∷ []) []) ≡ length (cond b (y ∷ []) [])
 length_where true x y = refl
 length_where false x y = refl
 
-length_three : {X Y : Type 0} (xs xs' : List X) (x : X) (ys ys' : List Y) (y : Y) → length xs ≡ length ys → length xs' ≡ length ys' → length (xs ++ (xs' ++ x ∷ [])) ≡ length (ys ++ (ys' ++ y ∷ []))
+pub length_three : {X Y : Type 0} (xs xs' : List X) (x : X) (ys ys' : List Y) (y : Y) → length xs ≡ length ys → length xs' ≡ length ys' → length (xs ++ (xs' ++ x ∷ [])) ≡ length (ys ++ (ys' ++ y ∷ []))
 length_three xs xs' x ys ys' y a b =
     length-append xs _ ∙ (λ i. a i + (length-append xs' (x ∷ []) ∙ ap (λ n. n + 1) b ∙ sym (length-append ys' (y ∷ []))) i) ∙ sym (length-append ys _)
 

@@ -193,6 +193,37 @@ mutual
     returns_early : {n : ℕ} {s : Stmt} {ss : Stmts} {st last : State} {z : ℤ} → Seg params bare n s st (returns z last) → Segs params bare n (more s ss) st (returns z last)
     fails_early : {n i : ℕ} {s : Stmt} {ss : Stmts} {st : State} → Seg params bare n s st (fails i) → Segs params bare n (more s ss) st (fails i)
 
+-- ---- what locals without a value hold in a segment run, in the order in which they are made
+
+abbrev pub held_at : {ls : List Local} {st : State} → Enters ls st → List ℤ
+held_at Enters.none = []
+held_at (Enters.without_value any en) = any ∷ held_at en
+held_at (Enters.with_value en) = held_at en
+
+abbrev mutual
+  pub held_in : {params : ℕ} {bare : List (List ℕ)} {n : ℕ} {s : Stmt} {st : State} {o : End} → Seg params bare n s st o → List ℤ
+  held_in (Seg.of_block en body) = held_at en ++ held_in_all body
+  held_in Seg.declares = []
+  held_in (Seg.defines t) = []
+  held_in (Seg.define_fails f) = []
+  held_in (Seg.assigns t) = []
+  held_in (Seg.assign_fails f) = []
+  held_in (Seg.gives_value t) = []
+  held_in (Seg.give_fails f) = []
+  held_in (Seg.condition_fails f) = []
+  held_in (Seg.first_arm t taken arm) = held_in arm
+  held_in (Seg.second_arm t taken arm) = held_in arm
+  held_in (Seg.asserted t) = []
+  held_in (Seg.assert_fails f) = []
+
+  pub held_in_all : {params : ℕ} {bare : List (List ℕ)} {n : ℕ} {ss : Stmts} {st : State} {o : End} → Segs params bare n ss st o → List ℤ
+  held_in_all Segs.at_end = []
+  held_in_all (Segs.goes_through first rest) = held_in first ++ held_in_all rest
+  held_in_all (Segs.returns_early first) = held_in first
+  held_in_all (Segs.fails_early first) = held_in first
+
+-- ---- functions
+
 -- the number of the first check behind the body: that of noreturn, and that of the first `ensures`
 abbrev pub after_body : Function → ℕ
 after_body f = length (all_checks (bare_of f) f.body)
@@ -206,6 +237,11 @@ pub data Fails (f : Function) (st : State) : (i : ℕ) → Type 0 where
   off_the_end : {last : State} → Seg (length f.params) (bare_of f) 0 (block f.body) st (goes_on last) → Fails f st (after_body f)
   at_return : {i : ℕ} {z : ℤ} {last : State} → Seg (length f.params) (bare_of f) 0 (block f.body) st (returns z last)
       → FirstFalse (first_ensures f) (clause_truths (with_result st z) f.ensures_) i → Fails f st i
+
+abbrev pub held : {f : Function} {st : State} {i : ℕ} → Fails f st i → List ℤ
+held (Fails.in_body run) = held_in run
+held (Fails.off_the_end run) = held_in run
+held (Fails.at_return run first) = held_in run
 
 -- a segment run that starts with these arguments fails at the check of this number
 pub record FailsAt (f : Function) (i : ℕ) (args : List ℤ) : Type 0 where

@@ -13,5 +13,8 @@ mod statements;
 mod values;
 
 pub use function_goals::goals;
-pub use laws::{failures_have_goals, goals_are_exact, goals_are_the_checks, segments_to_runs};
+pub use laws::{
+    correct_runs_never_fail, failures_are_met, failures_are_met_always, failures_have_goals,
+    goals_are_exact, goals_are_the_checks, int_is_its_kind, segments_to_runs, wrong_runs_fail,
+};
 pub use places::{Check, CheckPlace, NamedGoal};

@@ -6,9 +6,8 @@ ghost use Rattle.qed_terms.specs.View.{formula_tree, term_tree};
 ghost use Rattle.wp_calculus.specs.Goals as spec;
 ghost use Rattle.wp_calculus.specs.View.{chosen_slot, slot_links, view_slot, view_split, view_world};
 
-use crate::names::new_name;
+use crate::names::{link, new_name};
 use crate::slots::{Slot, World};
-use crate::values::equality;
 use qed_terms::{Formula, Fresh, Term};
 use std::alloc::Global;
 use wp_base::{List, NoMemory, Str};
@@ -84,13 +83,18 @@ fn join_terms(
         return first.copy(alloc);
     }
     let name = new_name(alloc, fresh, base)?;
-    rests
-        .left
-        .push(equality(alloc, name.copy(alloc)?, first.copy(alloc)?)?)?;
-    rests
-        .right
-        .push(equality(alloc, name.copy(alloc)?, second.copy(alloc)?)?)?;
+    link(alloc, &name, first.copy(alloc)?, &mut rests.left)?;
+    link(alloc, &name, second.copy(alloc)?, &mut rests.right)?;
     Ok(name)
+}
+
+// The base name of the flag of a variable.
+fn flag_base(alloc: Global, name: &Str) -> Result<Str, NoMemory>
+    ensures { IfOk result (λ base. base ≡ spec.flag_base name.now) }
+{
+    let mut base = Vec::from_slice(alloc, name.bytes())?;
+    base.extend_from_slice(FLAG)?;
+    Ok(Str::from_vec(base))
 }
 
 // A variable of two states.
@@ -114,12 +118,11 @@ fn join_slots(
         &second.value,
         rests,
     )?;
-    let mut base = Vec::from_slice(alloc, first.name.bytes())?;
-    base.extend_from_slice(FLAG)?;
+    let base = flag_base(alloc, &first.name)?;
     let flag = join_terms(
         alloc,
         fresh,
-        &Str::from_vec(base),
+        &base,
         &first.flag,
         &second.flag,
         rests,

@@ -1,6 +1,7 @@
 // Fresh names for values.
-ghost use Rattle.std.specs.Prelude.{◌≡◌, ◌++◌, map, IfOk, OnOk};
+ghost use Rattle.std.specs.Prelude.{◌≡◌, ◌++◌, ◌∷◌, [], map, IfOk, OnOk};
 ghost use Rattle.qed_terms.specs.Fresh.{use_one, used_in};
+ghost use Rattle.qed_terms.specs.Tree.{equal};
 ghost use Rattle.qed_terms.specs.View.{formula_tree, term_tree};
 ghost use Rattle.wp_calculus.specs.Goals as spec;
 
@@ -32,6 +33,28 @@ pub fn new_name(alloc: Global, fresh: &mut Fresh, base: &Str) -> Result<Term, No
     Ok(term)
 }
 
+// The next fresh name of a large value.
+fn large_name(alloc: Global, fresh: &mut Fresh) -> Result<Term, NoMemory>
+    ensures name { IfOk result (λ term. term_tree term ≡ spec.new_name (used_in fresh.old) spec.large_base) }
+    ensures used { OnOk result (used_in fresh.new ≡ use_one (used_in fresh.old) spec.large_base) }
+{
+    let base = Str::from_bytes(alloc, LARGE)?;
+    new_name(alloc, fresh, &base)
+}
+
+/// It is known that the name is the value.
+pub fn link(
+    alloc: Global,
+    name: &Term,
+    value: Term,
+    known: &mut List<Formula>,
+) -> Result<(), NoMemory>
+    ensures { OnOk result (map formula_tree known.new ≡ map formula_tree known.old ++ equal (term_tree name.now) (term_tree value) ∷ []) }
+{
+    known.push(equality(alloc, name.copy(alloc)?, value)?)?;
+    Ok(())
+}
+
 /// The term that stands for a value that is set or returned. What is known of it is added.
 #[tactic(auto, using(crate::proofs::Given_names::small_term, crate::proofs::Given_names::small_used, crate::proofs::Given_names::small_known, crate::proofs::Given_names::large_term, crate::proofs::Given_names::large_used, crate::proofs::Given_names::large_known))]
 pub fn named(
@@ -47,8 +70,7 @@ pub fn named(
     if !is_large(&value) {
         return Ok(value);
     }
-    let base = Str::from_bytes(alloc, LARGE)?;
-    let name = new_name(alloc, fresh, &base)?;
-    known.push(equality(alloc, name.copy(alloc)?, value)?)?;
+    let name = large_name(alloc, fresh)?;
+    link(alloc, &name, value, known)?;
     Ok(name)
 }

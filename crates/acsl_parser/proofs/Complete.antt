@@ -13,6 +13,7 @@ use Rattle.c_grammar.specs.Preds.{SpellsPred}
 use Rattle.c_grammar.specs.Annots as g
 use Rattle.c_grammar.specs.Reading.{Reader, ◌>>=◌, punct_at, word_at}
 use Rattle.c_grammar.proofs.Readers.{got}
+use Rattle.c_grammar.proofs.Separating.{separated_complete}
 use Rattle.parse_terms.specs.Next.{ends_term}
 use Rattle.parse_terms.specs.Read.{term_at, entry_at}
 use Rattle.parse_terms.proofs.Laws.{term_complete, entry_complete}
@@ -26,7 +27,6 @@ use Rattle.acsl_parser.specs.declared.words.LoopWord.TheVariants as lw
 use Rattle.acsl_parser.specs.Lists.{is_some}
 use Rattle.parse_clauses.specs.Sorts.{Sorted, sorted_of, is_in}
 use Rattle.acsl_parser.specs.Read as s
-use Rattle.acsl_parser.proofs.Separating.{separated_complete}
 use Rattle.acsl_parser.proofs.Repeating.{RepeatedAt, none, more, Repeats, repeat_complete}
 use Rattle.acsl_parser.proofs.Keywords.{clause_text, clause_found, loop_text, loop_found}
 use Rattle.acsl_parser.proofs.Parts.{Below}

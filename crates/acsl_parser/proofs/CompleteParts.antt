@@ -7,21 +7,24 @@ use Rattle.c_syntax.specs.Term as t
 use Rattle.c_syntax.specs.Pred as r
 use Rattle.c_syntax.specs.Decl as d
 use Rattle.c_syntax.specs.Contract.{Behavior, Contract, LoopAnnot}
-use Rattle.c_grammar.specs.Tokens.{Names, is_type, punct, name, most_open}
+use Rattle.c_grammar.specs.Tokens.{Names, is_type, punct, name}
 use Rattle.c_grammar.specs.Lists.{Repeated}
-use Rattle.c_grammar.specs.Preds.{SpellsTyped, declared}
+use Rattle.c_grammar.specs.Preds.{SpellsTyped}
 use Rattle.c_grammar.specs.Annots as g
 use Rattle.c_grammar.specs.Reading.{◌>>=◌, punct_at, keyword_at}
+use Rattle.c_grammar.specs.declared.limits.TheConstants.{DEEPEST}
+use Rattle.c_grammar.specs.Declarators.{declared}
+use Rattle.c_grammar.specs.ListReaders.{separated_at}
+use Rattle.c_grammar.proofs.Separating.{separated_complete}
 use Rattle.parse_preds.specs.Read.{typed_at}
 use Rattle.parse_clauses.specs.declared.items.Part.TheVariants as part
 use Rattle.acsl_parser.specs.declared.words.EndWord.{EndWord}
 use Rattle.acsl_parser.specs.declared.words.EndWord.TheVariants as ew
 use Rattle.acsl_parser.specs.declared.words.LogicWord.{LogicWord}
 use Rattle.acsl_parser.specs.declared.words.LogicWord.TheVariants as gw
-use Rattle.acsl_parser.specs.Lists.{separated_at, worded, is_some}
+use Rattle.acsl_parser.specs.Lists.{worded, is_some}
 use Rattle.parse_clauses.specs.Sorts.{Sorted, sorted_of, behavior_of, loop_made, contract_made}
 use Rattle.acsl_parser.specs.Read as s
-use Rattle.acsl_parser.proofs.Separating.{separated_complete}
 use Rattle.acsl_parser.proofs.Repeating.{RepeatedAt, none, more, Repeats, goes_on, repeat_complete, repeat_starts}
 use Rattle.acsl_parser.proofs.Keywords.{keyword_is, end_text, end_found, end_worded, logic_text, logic_found}
 use Rattle.acsl_parser.proofs.Parts.{Below}
@@ -31,7 +34,7 @@ use Rattle.acsl_parser.proofs.Complete.{ended_reads, pred_reads, term_reads, sep
 -- ---- behaviors
 
 behavior_found : (types : Names) (at end line line' line'' : ℕ) (x : List ℕ) (after : List Token) (sorted : Sorted) (rest : List Token) → is_type types x ≡ false
-    → end - length (name (codes "behavior") line ∷ name x line' ∷ punct p.Colon line'' ∷ after) ≡ at → s.part_at part.Behavior types most_open end after ≡ Some (sorted, rest)
+    → end - length (name (codes "behavior") line ∷ name x line' ∷ punct p.Colon line'' ∷ after) ≡ at → s.part_at part.Behavior types DEEPEST end after ≡ Some (sorted, rest)
     → s.behavior_at types end (name (codes "behavior") line ∷ name x line' ∷ punct p.Colon line'' ∷ after) ≡ Some (behavior_of at (x, line') sorted, rest)
 unfolding s.behavior_at
 behavior_found types at end line line' line'' x after sorted rest new place read =
@@ -46,7 +49,7 @@ behavior_complete {types} below end at xs b (g.behavior line line'' {line'} {x} 
     let count : length (xs ++ rest) ≡ suc (suc (suc (length (inside ++ rest)))) = ap length split in
     let within : (at + 3) + length (inside ++ rest) ≡ end = omega (arith, count, placed) in
     let place : end - suc (suc (suc (length (inside ++ rest)))) ≡ at = omega (arith, count, placed) in
-    let read = part_complete below part.Behavior most_open end (at + 3) inside (sorted_of items) (items, its, stands, refl) rest stop within in
+    let read = part_complete below part.Behavior DEEPEST end (at + 3) inside (sorted_of items) (items, its, stands, refl) rest stop within in
     ap (s.behavior_at types end) split ∙ behavior_found types at end line line' line'' x (inside ++ rest) (sorted_of items) rest new place read ∙ ap (λ b. Some (b, rest)) (sym is)
 
 behavior_begins : (types : Names) (at : ℕ) (xs : List Token) (b : Behavior) → g.SpellsBehavior types at xs b → (rest : List Token) → s.starts_behavior (xs ++ rest) ≡ true
@@ -183,7 +186,7 @@ endings_complete end at xs es sp rest stop stop' placed = repeat_complete (endin
 
 -- ---- contracts
 
-contract_reads : (types : Names) (end : ℕ) (ts ts' ts'' rest : List Token) (sorted : Sorted) (bs : List Behavior) (es : List g.Ending) → s.part_at part.Contract types most_open end ts ≡ Some (sorted, ts')
+contract_reads : (types : Names) (end : ℕ) (ts ts' ts'' rest : List Token) (sorted : Sorted) (bs : List Behavior) (es : List g.Ending) → s.part_at part.Contract types DEEPEST end ts ≡ Some (sorted, ts')
     → s.all_behaviors_at types end ts' ≡ Some (bs, ts'') → s.all_endings_at end ts'' ≡ Some (es, rest) → s.contract_at types end ts ≡ Some (contract_made sorted bs es, rest)
 unfolding s.contract_at
 contract_reads types end ts ts' ts'' rest sorted bs es first second third = rw (first, second, third) refl
@@ -201,7 +204,7 @@ contract_complete {types} below end at xs c (g.contract {first} {second} {third}
     let after = goes_on (behaviors_repeat below end) (placed_behaviors bs) (third ++ rest) later.0 in
     ap (s.contract_at types end) split
     ∙ contract_reads types end (first ++ (second ++ (third ++ rest))) (second ++ (third ++ rest)) (third ++ rest) rest (sorted_of items) behaviors endings
-    (part_complete below part.Contract most_open end at first (sorted_of items) (items, its, stands, refl) (second ++ (third ++ rest)) after place)
+    (part_complete below part.Contract DEEPEST end at first (sorted_of items) (items, its, stands, refl) (second ++ (third ++ rest)) after place)
     (behaviors_complete below end (at + length first) second behaviors bs (third ++ rest) later place')
     (endings_complete end (at + length first + length second) third endings es rest stop stop' place'')
     ∙ ap (λ c. Some (c, rest)) (sym is)
@@ -241,12 +244,12 @@ params_complete {types} below {xs} {vs} (g.SpellsLogicParams.some line' line'' {
     ap (s.params_at types) split ∙ rw read refl
 
 predicate_reads : (types : Names) (line line' : ℕ) (x : List ℕ) (ts after : List Token) (vs : List e.VarDecl) (a : r.Pred) (rest : List Token) → is_type types x ≡ false
-    → s.params_at types ts ≡ Some (vs, punct p.Assign line' ∷ after) → s.pred_ended types most_open after ≡ Some (a, rest) → s.predicate_at types (name x line ∷ ts) ≡ Some (s.predicate_of (x, line) vs a, rest)
+    → s.params_at types ts ≡ Some (vs, punct p.Assign line' ∷ after) → s.pred_ended types DEEPEST after ≡ Some (a, rest) → s.predicate_at types (name x line ∷ ts) ≡ Some (s.predicate_of (x, line) vs a, rest)
 unfolding s.predicate_at
 predicate_reads types line line' x ts after vs a rest new params body = rw (new, params, body) refl
 
 function_reads : (types : Names) (line' : ℕ) (ts ts' after : List Token) (v : e.VarDecl) (vs : List e.VarDecl) (a : t.Term) (rest : List Token) → typed_at types ts ≡ Some (v, ts')
-    → s.params_at types ts' ≡ Some (vs, punct p.Assign line' ∷ after) → s.term_ended types most_open after ≡ Some (a, rest) → s.function_at types ts ≡ Some (s.function_of v vs a, rest)
+    → s.params_at types ts' ≡ Some (vs, punct p.Assign line' ∷ after) → s.term_ended types DEEPEST after ≡ Some (a, rest) → s.function_at types ts ≡ Some (s.function_of v vs a, rest)
 unfolding s.function_at
 function_reads types line' ts ts' after v vs a rest typed params body = rw (typed, params, body) refl
 
@@ -264,7 +267,7 @@ logic_complete {types} below xs made (g.predicate line line'' line''' {line'} {t
     let regrouped : (first ∷ name x line' ∷ (params ++ equals ∷ (body ++ semi ∷ []))) ++ rest ≡ first ∷ name x line' ∷ (params ++ equals ∷ behind) = simp append_assoc in
     ap (λ l. s.logic_at types (l ++ rest)) eq ∙ ap (s.logic_at types) regrouped
     ∙ logic_reads types line gw.Predicate (name x line' ∷ (params ++ equals ∷ behind)) made rest
-    (predicate_reads types line' line'' x (params ++ equals ∷ behind) behind vs a rest new (params_complete below ps line'' behind) (pred_reads below most_open trails body a sp line''' rest))
+    (predicate_reads types line' line'' x (params ++ equals ∷ behind) behind vs a rest new (params_complete below ps line'' behind) (pred_reads below DEEPEST trails body a sp line''' rest))
 logic_complete {types} below xs made (g.logic line line'' line''' {line'} {x} {result} {params} {body} {type} {xs = vs} {a} is_logic new ps sp eq) rest =
     let semi = punct p.Semicolon line''' in
     let equals = punct p.Assign line'' in
@@ -276,7 +279,7 @@ logic_complete {types} below xs made (g.logic line line'' line''' {line'} {x} {r
     ap (λ l. s.logic_at types (l ++ rest)) eq ∙ ap (s.logic_at types) regrouped
     ∙ logic_reads types line gw.Logic (front ++ (params ++ equals ∷ behind)) made rest
     (function_reads types line'' (front ++ (params ++ equals ∷ behind)) (params ++ equals ∷ behind) behind (declared x type line') vs a rest typed (params_complete below ps line'' behind)
-    (term_reads types most_open body a sp line''' rest))
+    (term_reads types DEEPEST body a sp line''' rest))
 
 logic_starts : (which : LogicWord) (line : ℕ) (after : List Token) → s.starts_logic (name (logic_text which) line ∷ after) ≡ true
 unfolding s.starts_logic

@@ -1,5 +1,4 @@
 pub mod Reading
-pub mod Separating
 pub mod Repeating
 pub mod Keywords
 pub mod Parts

@@ -1,5 +1,5 @@
 -- What was read at a place, over all tokens of a text.
-use Rattle.std.proofs.Common.{◌≡◌, ℕ, zero, suc, ◌+◌, ◌-◌, ◌≤◌, Bool, true, false, not, ◌||◌, if◌then◌else◌, List, [], ◌∷◌, ◌++◌, length, take, drop, slice_get, IfOk, Some, Result, Ok, Err, refl, sym, ap, ◌∙◌, arith, length-append}
+use Rattle.std.proofs.Common.{◌≡◌, ℕ, zero, suc, ◌+◌, ◌-◌, ◌≤◌, Bool, true, false, not, ◌||◌, if◌then◌else◌, List, [], ◌∷◌, ◌++◌, length, take, drop, slice_get, IfOk, Some, Result, Ok, Err, refl, sym, ap, ◌∙◌, arith, length-append, length-drop}
 use Rattle.std.specs.Borrow.{Bor}
 use Rattle.wp_base.specs.declared.answers.Refusal.{Refusal}
 use Rattle.wp_base.specs.declared.answers.Rule.TheVariants as rule
@@ -9,9 +9,9 @@ use Rattle.c_syntax.specs.declared.token.TokenKind.{TokenKind}
 use Rattle.c_syntax.specs.declared.token.TokenKind.TheVariants as k
 use Rattle.c_grammar.specs.declared.fault.Fault.{Fault}
 use Rattle.c_grammar.specs.declared.fault.Fault.TheVariants as fault
-use Rattle.parse_types.specs.Clauses.{IsSpelled, IsRead, IsOnly}
 use Rattle.acsl_parser.specs.Spelled.{IsClosed}
 use Rattle.acsl_parser.specs.Places.{MayFollow, StandsAt, OnlyPart, RefusesAt, closes_by, is_closed, unspelled, placed, without_line}
+use Rattle.acsl_parser.proofs.Promises.{IsSpelled, IsRead, IsOnly}
 
 -- ---- lists
 
@@ -141,3 +141,6 @@ rest_here at tokens le = take_whole (length tokens - at) (drop at tokens) (omega
 -- the place of the tokens behind a front is the front's length
 pub place_here : (at : ℕ) (tokens : List Token) → at ≤ length tokens → length tokens - length (drop at tokens) ≡ at
 place_here at tokens le = omega (arith, left_behind at tokens le)
+
+pub rest_shorter : (at : ℕ) (tokens : List Token) → length (drop at tokens) ≤ length tokens
+rest_shorter at tokens = omega (arith, length-drop at tokens)

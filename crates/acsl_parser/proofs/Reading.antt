@@ -1,59 +1,17 @@
 -- Equations of the readers of lists in the words of the code.
-use Rattle.std.proofs.Common.{◌≡◌, ℕ, zero, suc, ◌+◌, ◌-◌, Bool, true, false, List, [], ◌∷◌, ◌++◌, length, map, Option, Some, None, Err, refl, ap, ◌∙◌, arith, append_assoc, append-nil}
+use Rattle.std.proofs.Common.{◌≡◌, ℕ, zero, suc, ◌+◌, ◌-◌, Bool, true, false, List, [], ◌∷◌, ◌++◌, length, map, Some, None, Err, refl, ap, ◌∙◌, arith, append-nil}
 use Rattle.std.proofs.lemmas.List.{map-append}
 use Rattle.c_syntax.specs.declared.token.Token.{Token}
 use Rattle.c_syntax.specs.declared.token.Punct.TheVariants as p
 use Rattle.c_grammar.specs.declared.fault.Fault.{Fault}
 use Rattle.c_grammar.specs.declared.fault.Fault.TheVariants.{Syntax, NoMemory}
-use Rattle.c_grammar.specs.Reading.{Reader, ◌>>=◌, punct_at}
+use Rattle.c_grammar.specs.Reading.{Reader, punct_at}
 use Rattle.c_grammar.specs.Views.{Gives}
 use Rattle.c_grammar.specs.Tokens.{Names}
+use Rattle.c_grammar.specs.ListReaders.{with_items, more_separated}
+use Rattle.c_grammar.proofs.Turns.{with_one, items_turn}
 use Rattle.acsl_parser.specs.Read as r
-use Rattle.acsl_parser.specs.Lists.{with_items, more_separated, repeat}
-
-with_one : {X : Type 0} (xs : List X) (x : X) (given : Option (List X × List Token)) → with_items (xs ++ x ∷ []) given ≡ with_items xs (given >>= λ ys. Some (x ∷ ys.0, ys.1))
-with_one xs x None = refl
-with_one xs x (Some ys) = rw append_assoc refl
-
-pub one_more : {X : Type 0} (x : X) (given : Option (List X × List Token)) → with_items (x ∷ []) given ≡ (given >>= λ xs. Some (x ∷ xs.0, xs.1))
-one_more x None = refl
-one_more x (Some xs) = refl
-
--- ---- items between commas
-
-pub items_end : {X : Type 0} (item : Reader X) (turns : ℕ) (xs : List X) (ts : List Token) → turns ≡ 0 → with_items xs (more_separated item turns ts) ≡ Some (xs, ts)
-unfolding more_separated
-items_end item zero xs ts none = rw append-nil refl
-items_end item (suc turns) xs ts none = absurd (omega arith)
-
-pub items_stop : {X : Type 0} (item : Reader X) (turns : ℕ) (xs : List X) (ts : List Token) → punct_at p.Comma ts ≡ None → with_items xs (more_separated item turns ts) ≡ Some (xs, ts)
-unfolding more_separated
-items_stop item zero xs ts h = rw append-nil refl
-items_stop item (suc turns) xs ts h = rw (h, append-nil) refl
-
-items_turn : {X : Type 0} (item : Reader X) (turns turns' : ℕ) (xs : List X) (x : X) (ts : List Token) (line : ℕ) (after rest : List Token) → turns ≡ turns' + 1
-    → punct_at p.Comma ts ≡ Some (line, after) → item after ≡ Some (x, rest) → with_items (xs ++ x ∷ []) (more_separated item turns' rest) ≡ with_items xs (more_separated item turns ts)
-unfolding more_separated
-items_turn item turns turns' xs x ts line after rest more comma read =
-    let m : turns ≡ suc turns' = omega arith in
-    rw (m, comma, read) (with_one xs x (more_separated item turns' rest))
-
-pub items_fault : {X Y : Type 0} (see : X → Y) (item : Reader Y) (turns turns' : ℕ) (xs : List Y) (ts : List Token) (line : ℕ) (after : List Token) (e : Fault) → turns ≡ turns' + 1
-    → punct_at p.Comma ts ≡ Some (line, after) → Gives see (Err e) (item after) → Gives (map see) (Err e) (with_items xs (more_separated item turns ts))
-unfolding more_separated
-items_fault see item turns turns' xs ts line after Syntax more comma read =
-    let m : turns ≡ suc turns' = omega arith in
-    rw (m, comma, read) refl
-items_fault see item turns turns' xs ts line after NoMemory more comma read = tt
-
--- one more item, put at the end
-pub items_next : {X Y : Type 0} (see : X → Y) (item : Reader Y) (turns turns' : ℕ) (xs more : List X) (x : X) (ts : List Token) (line : ℕ) (after rest : List Token) → turns ≡ turns' + 1
-    → punct_at p.Comma ts ≡ Some (line, after) → item after ≡ Some (see x, rest) → more ≡ xs ++ x ∷ []
-    → with_items (map see more) (more_separated item turns' rest) ≡ with_items (map see xs) (more_separated item turns ts)
-items_next see item turns turns' xs more x ts line after rest n comma read put =
-    ap (λ more. with_items (map see more) (more_separated item turns' rest)) put
-    ∙ ap (λ ys. with_items ys (more_separated item turns' rest)) (map-append see xs (x ∷ []))
-    ∙ items_turn item turns turns' (map see xs) (see x) ts line after rest n comma read
+use Rattle.acsl_parser.specs.Lists.{repeat}
 
 -- ---- items one after another
 
@@ -91,14 +49,6 @@ all_next see starts item turns turns' xs more x ts rest n start' read put =
     ∙ all_turn starts item turns turns' (map see xs) (see x) ts rest n start' read
 
 -- ---- the same where an item is seen as itself
-
-pub plain_fault : {X : Type 0} (item : Reader X) (turns turns' : ℕ) (xs : List X) (ts : List Token) (line : ℕ) (after : List Token) (e : Fault) → turns ≡ turns' + 1
-    → punct_at p.Comma ts ≡ Some (line, after) → Gives (λ x. x) (Err e) (item after) → Gives (λ xs. xs) (Err e) (with_items xs (more_separated item turns ts))
-unfolding more_separated
-plain_fault item turns turns' xs ts line after Syntax more comma read =
-    let m : turns ≡ suc turns' = omega arith in
-    rw (m, comma, read) refl
-plain_fault item turns turns' xs ts line after NoMemory more comma read = tt
 
 pub plain_next : {X : Type 0} (item : Reader X) (turns turns' : ℕ) (xs more : List X) (x : X) (ts : List Token) (line : ℕ) (after rest : List Token) → turns ≡ turns' + 1
     → punct_at p.Comma ts ≡ Some (line, after) → item after ≡ Some (x, rest) → more ≡ xs ++ x ∷ [] → with_items more (more_separated item turns' rest) ≡ with_items xs (more_separated item turns ts)

@@ -2,7 +2,8 @@
 use Rattle.std.proofs.Common.{◌≡◌, ℕ, zero, suc, ◌+◌, ◌-◌, ◌≤◌, Bool, true, false, List, [], ◌∷◌, ◌++◌, length, Some, refl, sym, ap, ◌∙◌, subst, arith, append_assoc, length-append}
 use Rattle.c_syntax.specs.declared.token.Token.{Token}
 use Rattle.c_grammar.specs.Reading.{Reader, ◌>>=◌}
-use Rattle.c_grammar.proofs.Readers.{Took, bind_ok, got, pair_is}
+use Rattle.c_grammar.specs.Exactness.{Took, SoundAt}
+use Rattle.c_grammar.proofs.Readers.{bind_ok, got, pair_is}
 use Rattle.acsl_parser.specs.Lists.{repeat_go, repeat}
 
 -- {item}, where the place of each item counts
@@ -12,10 +13,6 @@ pub data RepeatedAt {X : Type 0} (Item : (at : ℕ) → List Token → X → Typ
       → Item at first x → RepeatedAt Item (at + length first) rest xs → all ≡ first ++ rest → RepeatedAt Item at all (x ∷ xs)
 
 -- ---- what is read is spelled so
-
--- the same with places, which are counted from the end
-abbrev pub SoundAt : {X : Type 0} → ((at : ℕ) → List Token → X → Type 0) → (end : ℕ) → Reader X → Type 0
-SoundAt {X} Item end read = (ts : List Token) (x : X) (rest : List Token) → length ts ≤ end → read ts ≡ Some (x, rest) → Took (Item (end - length ts)) ts x rest
 
 repeat_ends : {X : Type 0} (Item : (at : ℕ) → List Token → X → Type 0) (at : ℕ) (ts : List Token) (xs : List X) (rest : List Token) → got [] ts ≡ got xs rest → Took (RepeatedAt Item at) ts xs rest
 repeat_ends {X} Item at ts xs rest h =

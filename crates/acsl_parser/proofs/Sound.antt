@@ -11,7 +11,9 @@ use Rattle.c_grammar.specs.Terms.{anywhere, SpellsTerm, SpellsEntry}
 use Rattle.c_grammar.specs.Annots as g
 use Rattle.c_grammar.specs.Reading.{Reader, ◌>>=◌, punct_at, word_at}
 use Rattle.c_grammar.proofs.Readers.{Took, Sound, bind_ok, guard_ok, got, pair_is}
-use Rattle.parse_types.proofs.Tokens.{punct_is, word_is}
+use Rattle.c_grammar.proofs.SingleTokens.{punct_is, word_is}
+use Rattle.c_grammar.proofs.Separating.{separated_sound}
+use Rattle.c_grammar.specs.Exactness.{SoundAt}
 use Rattle.parse_terms.specs.Read.{term_at, entry_at}
 use Rattle.parse_terms.proofs.Laws.{term_sound, entry_sound}
 use Rattle.parse_preds.specs.Read.{pred_at}
@@ -23,8 +25,7 @@ use Rattle.acsl_parser.specs.declared.words.LoopWord.TheVariants as lw
 use Rattle.acsl_parser.specs.Lists.{worded}
 use Rattle.parse_clauses.specs.Sorts.{Sorted, sorted_of, is_in}
 use Rattle.acsl_parser.specs.Read as s
-use Rattle.acsl_parser.proofs.Separating.{separated_sound}
-use Rattle.acsl_parser.proofs.Repeating.{RepeatedAt, none, more, SoundAt, repeat_sound}
+use Rattle.acsl_parser.proofs.Repeating.{RepeatedAt, none, more, repeat_sound}
 use Rattle.acsl_parser.proofs.Keywords.{clause_text, clause_worded, loop_text, loop_worded}
 use Rattle.acsl_parser.proofs.Parts.{SomePred, Below}
 

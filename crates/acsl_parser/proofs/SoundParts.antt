@@ -7,14 +7,18 @@ use Rattle.c_syntax.specs.Term as t
 use Rattle.c_syntax.specs.Pred as r
 use Rattle.c_syntax.specs.Decl as d
 use Rattle.c_syntax.specs.Contract.{Behavior, Contract}
-use Rattle.c_grammar.specs.Tokens.{Names, is_type, punct, name, most_open}
+use Rattle.c_grammar.specs.Tokens.{Names, is_type, punct, name}
 use Rattle.c_grammar.specs.Lists.{Separated, Repeated}
 use Rattle.c_grammar.specs.Terms.{anywhere, SpellsTerm}
 use Rattle.c_grammar.specs.Preds.{SpellsTyped}
 use Rattle.c_grammar.specs.Annots as g
 use Rattle.c_grammar.specs.Reading.{Reader, ◌>>=◌, punct_at, name_at, new_name_at, keyword_at}
 use Rattle.c_grammar.proofs.Readers.{Took, Sound, bind_ok, pair_is}
-use Rattle.parse_types.proofs.Tokens.{punct_is, name_is, new_name_is}
+use Rattle.c_grammar.specs.declared.limits.TheConstants.{DEEPEST}
+use Rattle.c_grammar.specs.ListReaders.{separated_at}
+use Rattle.c_grammar.proofs.SingleTokens.{punct_is, name_is, new_name_is}
+use Rattle.c_grammar.proofs.Separating.{separated_sound}
+use Rattle.c_grammar.specs.Exactness.{SoundAt}
 use Rattle.parse_terms.specs.Read.{term_at}
 use Rattle.parse_terms.proofs.Laws.{term_sound}
 use Rattle.parse_preds.specs.Read.{pred_at, typed_at}
@@ -23,18 +27,17 @@ use Rattle.acsl_parser.specs.declared.words.EndWord.{EndWord}
 use Rattle.acsl_parser.specs.declared.words.EndWord.TheVariants as ew
 use Rattle.acsl_parser.specs.declared.words.LogicWord.{LogicWord}
 use Rattle.acsl_parser.specs.declared.words.LogicWord.TheVariants as gw
-use Rattle.acsl_parser.specs.Lists.{separated_at, worded, repeat}
+use Rattle.acsl_parser.specs.Lists.{worded, repeat}
 use Rattle.parse_clauses.specs.Sorts.{Sorted, behavior_of, loop_made, contract_made}
 use Rattle.acsl_parser.specs.Read as s
-use Rattle.acsl_parser.proofs.Separating.{separated_sound}
-use Rattle.acsl_parser.proofs.Repeating.{RepeatedAt, none, more, SoundAt, repeat_sound}
+use Rattle.acsl_parser.proofs.Repeating.{RepeatedAt, none, more, repeat_sound}
 use Rattle.acsl_parser.proofs.Keywords.{keyword_is, end_text, end_worded, logic_text, logic_worded}
 use Rattle.acsl_parser.proofs.Parts.{SomePred, Below}
 use Rattle.acsl_parser.proofs.Sound.{Ended, ended_is, worded_ended, finish, SpellsPart, part_sound}
 
 -- ---- behaviors
 
-behavior_is : {types : Names} {at line line'' : ℕ} {x : List ℕ × ℕ} {inside : List Token} {s : Sorted} → is_type types x.0 ≡ false → SpellsPart part.Behavior types most_open (at + 3) inside s
+behavior_is : {types : Names} {at line line'' : ℕ} {x : List ℕ × ℕ} {inside : List Token} {s : Sorted} → is_type types x.0 ≡ false → SpellsPart part.Behavior types DEEPEST (at + 3) inside s
     → g.SpellsBehavior types at (name (codes "behavior") line ∷ name x.0 x.1 ∷ punct p.Colon line'' ∷ inside) (behavior_of at x s)
 behavior_is {types} {at} {line} {line''} {x} {inside} {s} new spelled =
     subst (λ s. g.SpellsBehavior types at (name (codes "behavior") line ∷ name x.0 x.1 ∷ punct p.Colon line'' ∷ inside) (behavior_of at x s)) spelled.3 (g.behavior line line'' new spelled.1 spelled.2 refl refl)
@@ -45,7 +48,7 @@ behavior_sound {types} below end ts made rest le h =
     let b = bind_ok (keyword_at (codes "behavior") ts) _ (made, rest) h in
     let x = bind_ok (new_name_at types b.0.1) _ (made, rest) b.2 in
     let c = bind_ok (punct_at p.Colon x.0.1) _ (made, rest) x.2 in
-    let s = bind_ok (s.part_at part.Behavior types most_open end c.0.1) (λ s. Some (behavior_of (end - length ts) x.0.0 s.0, s.1)) (made, rest) c.2 in
+    let s = bind_ok (s.part_at part.Behavior types DEEPEST end c.0.1) (λ s. Some (behavior_of (end - length ts) x.0.0 s.0, s.1)) (made, rest) c.2 in
     let same = pair_is (behavior_of (end - length ts) x.0.0 s.0.0) made s.0.1 rest s.2 in
     let found = new_name_is types b.0.1 x.0.0 x.0.1 x.1 in
     let front = name (codes "behavior") b.0.0 ∷ name x.0.0.0 x.0.0.1 ∷ punct p.Colon c.0.0 ∷ [] in
@@ -54,10 +57,10 @@ behavior_sound {types} below end ts made rest le h =
     let count : length ts ≡ suc (suc (suc (length c.0.1))) = ap length is in
     let within : length c.0.1 ≤ end = omega (arith, count, le) in
     let place : end - length c.0.1 ≡ (end - length ts) + 3 = omega (arith, count, le) in
-    let took = part_sound below part.Behavior most_open end c.0.1 s.0.0 s.0.1 within s.1 in (
+    let took = part_sound below part.Behavior DEEPEST end c.0.1 s.0.0 s.0.1 within s.1 in (
       front ++ took.0,
       is ∙ ap (λ l. front ++ l) (took.1 ∙ ap (λ l. took.0 ++ l) same.1),
-      subst (g.SpellsBehavior types (end - length ts) (front ++ took.0)) same.0 (behavior_is found.1 (subst (λ at. SpellsPart part.Behavior types most_open at took.0 s.0.0) place took.2)),
+      subst (g.SpellsBehavior types (end - length ts) (front ++ took.0)) same.0 (behavior_is found.1 (subst (λ at. SpellsPart part.Behavior types DEEPEST at took.0 s.0.0) place took.2)),
     )
 
 pub behaviors_of : {types : Names} {at : ℕ} {xs : List Token} {bs : List Behavior} → RepeatedAt (g.SpellsBehavior types) at xs bs → g.SpellsBehaviors types at xs bs
@@ -133,7 +136,7 @@ endings_sound end ts es rest le h =
 
 -- ---- contracts
 
-contract_is : {types : Names} {at : ℕ} {first second third : List Token} {s : Sorted} {bs : List Behavior} {es : List g.Ending} → SpellsPart part.Contract types most_open at first s
+contract_is : {types : Names} {at : ℕ} {first second third : List Token} {s : Sorted} {bs : List Behavior} {es : List g.Ending} → SpellsPart part.Contract types DEEPEST at first s
     → g.SpellsBehaviors types (at + length first) second bs → g.SpellsEndings (at + length first + length second) third es → g.SpellsContract types at (first ++ (second ++ third)) (contract_made s bs es)
 contract_is {types} {at} {first} {second} {third} {s} {bs} {es} spelled bs' es' =
     subst (λ s. g.SpellsContract types at (first ++ (second ++ third)) (contract_made s bs es)) spelled.3 (g.contract spelled.1 spelled.2 bs' es' refl refl)
@@ -142,11 +145,11 @@ pub contract_sound : {types : Names} → Below types → (end : ℕ) → SoundAt
 unfolding s.contract_at
 contract_sound {types} below end ts made rest le h =
     let at = end - length ts in
-    let head = bind_ok (s.part_at part.Contract types most_open end ts) _ (made, rest) h in
+    let head = bind_ok (s.part_at part.Contract types DEEPEST end ts) _ (made, rest) h in
     let bs = bind_ok (s.all_behaviors_at types end head.0.1) _ (made, rest) head.2 in
     let es = bind_ok (s.all_endings_at end bs.0.1) (λ es. Some (contract_made head.0.0 bs.0.0 es.0, es.1)) (made, rest) bs.2 in
     let same = pair_is (contract_made head.0.0 bs.0.0 es.0.0) made es.0.1 rest es.2 in
-    let first = part_sound below part.Contract most_open end ts head.0.0 head.0.1 le head.1 in
+    let first = part_sound below part.Contract DEEPEST end ts head.0.0 head.0.1 le head.1 in
     let count : length ts ≡ length first.0 + length head.0.1 = ap length first.1 ∙ length-append first.0 head.0.1 in
     let within : length head.0.1 ≤ end = omega (arith, count, le) in
     let second = behaviors_sound below end head.0.1 bs.0.0 bs.0.1 within bs.1 in
@@ -219,11 +222,11 @@ predicate_sound {types} below line ts after is made rest h =
     let x = bind_ok (new_name_at types after) _ (made, rest) h in
     let vs = bind_ok (s.params_at types x.0.1) _ (made, rest) x.2 in
     let a = bind_ok (punct_at p.Assign vs.0.1) _ (made, rest) vs.2 in
-    let b = bind_ok (s.ended (pred_at types most_open) a.0.1) (λ b. Some (s.predicate_of x.0.0 vs.0.0 b.0, b.1)) (made, rest) a.2 in
+    let b = bind_ok (s.ended (pred_at types DEEPEST) a.0.1) (λ b. Some (s.predicate_of x.0.0 vs.0.0 b.0, b.1)) (made, rest) a.2 in
     let same = pair_is (s.predicate_of x.0.0 vs.0.0 b.0.0) made b.0.1 rest b.2 in
     let found = new_name_is types after x.0.0 x.0.1 x.1 in
     let params = params_sound below x.0.1 vs.0.0 vs.0.1 vs.1 in
-    let body = ended_is (SomePred types most_open) (pred_at types most_open) (below.pred_sound most_open) a.0.1 b.0.0 b.0.1 b.1 in
+    let body = ended_is (SomePred types DEEPEST) (pred_at types DEEPEST) (below.pred_sound DEEPEST) a.0.1 b.0.0 b.0.1 b.1 in
     let first = name (codes "predicate") line in
     let second = name x.0.0.0 x.0.0.1 in
     let equals = punct p.Assign a.0.0 in
@@ -237,7 +240,7 @@ predicate_sound {types} below line ts after is made rest h =
 
 -- behind a type and a name
 function_is : {types : Names} (line line'' line''' : ℕ) {front params body all : List Token} {v : e.VarDecl} {vs : List e.VarDecl} {a : t.Term} → SpellsTyped types front v → g.SpellsLogicParams types params vs
-    → SpellsTerm types anywhere most_open body a → all ≡ name (codes "logic") line ∷ (front ++ (params ++ punct p.Assign line'' ∷ (body ++ punct p.Semicolon line''' ∷ []))) → g.SpellsLogic types all (s.function_of v vs a)
+    → SpellsTerm types anywhere DEEPEST body a → all ≡ name (codes "logic") line ∷ (front ++ (params ++ punct p.Assign line'' ∷ (body ++ punct p.Semicolon line''' ∷ []))) → g.SpellsLogic types all (s.function_of v vs a)
 function_is line line'' line''' {front} {params} {body} (SpellsTyped.typed {line = line'} {x} {first} type new eq) params' body' is =
     let tail = params ++ punct p.Assign line'' ∷ (body ++ punct p.Semicolon line''' ∷ []) in
     g.logic line line'' line''' type new params' body' (is ∙ ap (λ l. name (codes "logic") line ∷ (l ++ tail)) eq ∙ ap (λ l. name (codes "logic") line ∷ l) (append_assoc first (name x line' ∷ []) tail))
@@ -249,11 +252,11 @@ function_sound {types} below line ts after is made rest h =
     let x = bind_ok (typed_at types after) _ (made, rest) h in
     let vs = bind_ok (s.params_at types x.0.1) _ (made, rest) x.2 in
     let a = bind_ok (punct_at p.Assign vs.0.1) _ (made, rest) vs.2 in
-    let b = bind_ok (s.ended (term_at types most_open) a.0.1) (λ b. Some (s.function_of x.0.0 vs.0.0 b.0, b.1)) (made, rest) a.2 in
+    let b = bind_ok (s.ended (term_at types DEEPEST) a.0.1) (λ b. Some (s.function_of x.0.0 vs.0.0 b.0, b.1)) (made, rest) a.2 in
     let same = pair_is (s.function_of x.0.0 vs.0.0 b.0.0) made b.0.1 rest b.2 in
     let typed = below.typed_sound after x.0.0 x.0.1 x.1 in
     let params = params_sound below x.0.1 vs.0.0 vs.0.1 vs.1 in
-    let body = ended_is (SpellsTerm types anywhere most_open) (term_at types most_open) (term_sound types most_open) a.0.1 b.0.0 b.0.1 b.1 in
+    let body = ended_is (SpellsTerm types anywhere DEEPEST) (term_at types DEEPEST) (term_sound types DEEPEST) a.0.1 b.0.0 b.0.1 b.1 in
     let first = name (codes "logic") line in
     let equals = punct p.Assign a.0.0 in
     let semi = punct p.Semicolon body.line in

@@ -3,3 +3,4 @@ pub mod Read
 pub mod Views
 pub mod Spelled
 pub mod Places
+pub mod Exactness

@@ -11,10 +11,12 @@ use Rattle.c_syntax.specs.Pred as r
 use Rattle.c_syntax.specs.Decl as d
 use Rattle.c_syntax.specs.Contract.{AssignsClause, Behavior, Contract, LoopAnnot}
 use Rattle.c_syntax.specs.declared.annot.Names.{Names as Behaviors}
-use Rattle.c_grammar.specs.Tokens.{Names, most_open}
+use Rattle.c_grammar.specs.Tokens.{Names}
 use Rattle.c_grammar.specs.Annots.{Item, requires_item, ensures_item, assumes_item, invariant_item, assigns_item, loop_assigns_item, decreases_item, variant_item, clause_at, measure_at, may_stand, Ending, complete_ending, disjoint_ending, behaviors_at}
 use Rattle.c_grammar.specs.Annots as g
 use Rattle.c_grammar.specs.Reading.{Reader, ◌>>=◌, punct_at, word_at, name_at, new_name_at, keyword_at}
+use Rattle.c_grammar.specs.declared.limits.TheConstants.{DEEPEST}
+use Rattle.c_grammar.specs.ListReaders.{separated_at}
 use Rattle.parse_terms.specs.Read.{term_at, entry_at}
 use Rattle.parse_preds.specs.Read.{pred_at, typed_at}
 use Rattle.parse_clauses.specs.declared.items.Part.{Part}
@@ -27,7 +29,7 @@ use Rattle.acsl_parser.specs.declared.words.EndWord.{EndWord}
 use Rattle.acsl_parser.specs.declared.words.EndWord.TheVariants as ew
 use Rattle.acsl_parser.specs.declared.words.LogicWord.{LogicWord}
 use Rattle.acsl_parser.specs.declared.words.LogicWord.TheVariants as gw
-use Rattle.acsl_parser.specs.Lists.{separated_at, repeat, is_some, worded}
+use Rattle.acsl_parser.specs.Lists.{repeat, is_some, worded}
 use Rattle.parse_clauses.specs.Sorts.{Sorted, sorted_of, is_in, behavior_of, loop_made, contract_made}
 
 -- ---- the words that begin a part
@@ -139,7 +141,7 @@ part_at which types room end ts = items_at types room end ts >>= λ items. if ma
 -- "behavior" NAME ":" {clause}
 unfoldable pub behavior_at : Names → (end : ℕ) → Reader Behavior
 behavior_at types end ts =
-    keyword_at (codes "behavior") ts >>= λ b. new_name_at types b.1 >>= λ x. punct_at p.Colon x.1 >>= λ c. part_at part.Behavior types most_open end c.1 >>= λ s.
+    keyword_at (codes "behavior") ts >>= λ b. new_name_at types b.1 >>= λ x. punct_at p.Colon x.1 >>= λ c. part_at part.Behavior types DEEPEST end c.1 >>= λ s.
     Some (behavior_of (end - length ts) x.0 s.0, s.1)
 
 -- whether a behavior starts here
@@ -180,7 +182,7 @@ all_endings_at end ts = repeat starts_ending (ending_at end) (length ts) ts
 -- {clause} {behavior} {ending}
 unfoldable pub contract_at : Names → (end : ℕ) → Reader Contract
 contract_at types end ts =
-    part_at part.Contract types most_open end ts >>= λ s. all_behaviors_at types end s.1 >>= λ bs. all_endings_at end bs.1 >>= λ es. Some (contract_made s.0 bs.0 es.0, es.1)
+    part_at part.Contract types DEEPEST end ts >>= λ s. all_behaviors_at types end s.1 >>= λ bs. all_endings_at end bs.1 >>= λ es. Some (contract_made s.0 bs.0 es.0, es.1)
 
 -- ---- loops and assertions (ACSL 2.4)
 
@@ -211,12 +213,12 @@ function_of v params a = record { name = v.name; result = Some v.ty; params = pa
 -- behind `predicate`: NAME [params] "=" pred ";"
 unfoldable pub predicate_at : Names → Reader d.LogicDecl
 predicate_at types ts =
-    new_name_at types ts >>= λ x. params_at types x.1 >>= λ vs. punct_at p.Assign vs.1 >>= λ a. pred_ended types most_open a.1 >>= λ b. Some (predicate_of x.0 vs.0 b.0, b.1)
+    new_name_at types ts >>= λ x. params_at types x.1 >>= λ vs. punct_at p.Assign vs.1 >>= λ a. pred_ended types DEEPEST a.1 >>= λ b. Some (predicate_of x.0 vs.0 b.0, b.1)
 
 -- behind `logic`: ltype NAME [params] "=" term ";"
 unfoldable pub function_at : Names → Reader d.LogicDecl
 function_at types ts =
-    typed_at types ts >>= λ x. params_at types x.1 >>= λ vs. punct_at p.Assign vs.1 >>= λ a. term_ended types most_open a.1 >>= λ b. Some (function_of x.0 vs.0 b.0, b.1)
+    typed_at types ts >>= λ x. params_at types x.1 >>= λ vs. punct_at p.Assign vs.1 >>= λ a. term_ended types DEEPEST a.1 >>= λ b. Some (function_of x.0 vs.0 b.0, b.1)
 
 abbrev pub logic_by : Names → LogicWord → Reader d.LogicDecl
 logic_by types gw.Predicate ts = predicate_at types ts

@@ -8,14 +8,11 @@ ghost use Rattle.parse_clauses.specs.Views.{view_sorted};
 
 use crate::part::part_at;
 use crate::words::{place_of, starts_behavior};
-use c_grammar::{Fault, expect, keyword_at, new_name_at};
+use c_grammar::{DEEPEST, Fault, Read, expect, keyword_at, new_name_at};
 use c_syntax::{Behavior, Punct, Token};
 use parse_clauses::{Part, Sorted, first_assigns};
 use std::alloc::Global;
 use wp_base::{Line, List, Str};
-
-/// At most so many forms are open.
-pub const MOST_OPEN: u32 = 200;
 
 fn behavior_made(alloc: Global, place: usize, name: Str, line: Line, sorted: Sorted) -> Behavior
     ensures { view_behavior result ≡ behavior_of place (name, line) (view_sorted sorted) }
@@ -37,7 +34,7 @@ fn behavior_at<'a>(
     types: &[Str],
     end: usize,
     tokens: &'a [Token],
-) -> Result<(Behavior, &'a [Token]), Fault>
+) -> Read<'a, Behavior>
     ensures { Gives view_behavior result (spec.behavior_at types.now end tokens.now) }
 {
     let Some((_, rest)) = keyword_at(b"behavior", tokens) else {
@@ -45,7 +42,7 @@ fn behavior_at<'a>(
     };
     let ((name, line), rest) = new_name_at(alloc, types, rest)?;
     let (_, rest) = expect(Punct::Colon, rest)?;
-    let (sorted, rest) = part_at(alloc, Part::Behavior, types, MOST_OPEN, end, rest)?;
+    let (sorted, rest) = part_at(alloc, Part::Behavior, types, DEEPEST, end, rest)?;
     Ok((
         behavior_made(alloc, place_of(end, tokens), name, line, sorted),
         rest,
@@ -58,7 +55,7 @@ pub fn behaviors_at<'a>(
     types: &[Str],
     end: usize,
     tokens: &'a [Token],
-) -> Result<(List<Behavior>, &'a [Token]), Fault>
+) -> Read<'a, List<Behavior>>
     ensures { Gives (map view_behavior) result (spec.all_behaviors_at types.now end tokens.now) }
 {
     let mut items = List::new(alloc);

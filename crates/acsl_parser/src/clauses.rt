@@ -1,12 +1,12 @@
 // What stands behind the words of clauses (ACSL 2.3, 2.3.4, 2.5).
-ghost use Rattle.std.specs.Prelude.{◌≤◌, ◌-◌, length, map};
+ghost use Rattle.std.specs.Prelude.{◌-◌, length, map};
 ghost use Rattle.c_syntax.specs.View.{view_assigns, view_pred, view_term};
 ghost use Rattle.c_grammar.specs.Views.{Gives};
+ghost use Rattle.c_grammar.specs.ListReaders.{with_items, more_separated, separated_at};
 ghost use Rattle.parse_terms.specs.Read.{entry_at as entry_of};
-ghost use Rattle.acsl_parser.specs.Lists.{more_separated, separated_at, with_items};
 ghost use Rattle.acsl_parser.specs.Read as spec;
 
-use c_grammar::{Fault, expect, punct_at, word_at};
+use c_grammar::{Read, expect, punct_at, word_at};
 use c_syntax::{AssignsClause, Pred, Punct, Term, Token, Word};
 use parse_preds::pred_at;
 use parse_terms::{entry_at, term_at};
@@ -20,8 +20,7 @@ pub fn pred_ended<'a>(
     types: &[Str],
     room: u32,
     tokens: &'a [Token],
-) -> Result<(Pred, &'a [Token]), Fault>
-    requires { room ≤ 200 }
+) -> Read<'a, Pred>
     ensures { Gives view_pred result (spec.pred_ended types.now room tokens.now) }
 {
     let (pred, rest) = pred_at(alloc, types, room, tokens)?;
@@ -36,8 +35,7 @@ pub fn term_ended<'a>(
     types: &[Str],
     room: u32,
     tokens: &'a [Token],
-) -> Result<(Term, &'a [Token]), Fault>
-    requires { room ≤ 200 }
+) -> Read<'a, Term>
     ensures { Gives view_term result (spec.term_ended types.now room tokens.now) }
 {
     let (term, rest) = term_at(alloc, types, room, tokens)?;
@@ -52,8 +50,7 @@ fn more_entries<'a>(
     room: u32,
     first: List<Term>,
     tokens: &'a [Token],
-) -> Result<(List<Term>, &'a [Token]), Fault>
-    requires { room ≤ 200 }
+) -> Read<'a, List<Term>>
     ensures { Gives (map view_term) result (with_items (map view_term first) (more_separated (entry_of types.now room) (length tokens.now) tokens.now)) }
 {
     let mut items = first;
@@ -69,14 +66,13 @@ fn more_entries<'a>(
     Ok((items, rest))
 }
 
-#[tactic(auto, using(crate::proofs::Reading::one_more), unfolding(crate::specs::Lists::separated_at))]
+#[tactic(auto, using(c_grammar::proofs::Turns::one_more), unfolding(c_grammar::specs::ListReaders::separated_at))]
 fn some_entries<'a>(
     alloc: Global,
     types: &[Str],
     room: u32,
     tokens: &'a [Token],
-) -> Result<(List<Term>, &'a [Token]), Fault>
-    requires { room ≤ 200 }
+) -> Read<'a, List<Term>>
     ensures { Gives (map view_term) result (separated_at (entry_of types.now room) tokens.now) }
 {
     let (item, rest) = entry_at(alloc, types, room, tokens)?;
@@ -92,8 +88,7 @@ fn entries_at<'a>(
     types: &[Str],
     room: u32,
     tokens: &'a [Token],
-) -> Result<(List<Term>, &'a [Token]), Fault>
-    requires { room ≤ 200 }
+) -> Read<'a, List<Term>>
     ensures { Gives (map view_term) result (spec.entries_at types.now room tokens.now) }
 {
     match word_at(Word::Nothing, tokens) {
@@ -104,13 +99,7 @@ fn entries_at<'a>(
 
 // The line of `\from`, whose entries make no difference.
 #[tactic(auto, unfolding(crate::specs::Read::from_at))]
-fn from_at<'a>(
-    alloc: Global,
-    types: &[Str],
-    room: u32,
-    tokens: &'a [Token],
-) -> Result<(List<Line>, &'a [Token]), Fault>
-    requires { room ≤ 200 }
+fn from_at<'a>(alloc: Global, types: &[Str], room: u32, tokens: &'a [Token]) -> Read<'a, List<Line>>
     ensures { Gives (λ lines. lines) result (spec.from_at types.now room tokens.now) }
 {
     let mut lines = List::new(alloc);
@@ -131,8 +120,7 @@ pub fn assigns_at<'a>(
     place: usize,
     line: Line,
     tokens: &'a [Token],
-) -> Result<(AssignsClause, &'a [Token]), Fault>
-    requires { room ≤ 200 }
+) -> Read<'a, AssignsClause>
     ensures { Gives view_assigns result (spec.assigns_at types.now room place line tokens.now) }
 {
     let (set, rest) = entries_at(alloc, types, room, tokens)?;

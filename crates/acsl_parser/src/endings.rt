@@ -2,12 +2,12 @@
 ghost use Rattle.std.specs.Prelude.{◌≡◌, ◌-◌, length, map, IfOk};
 ghost use Rattle.c_grammar.specs.Annots.{complete_of, disjoint_of};
 ghost use Rattle.c_grammar.specs.Views.{Gives};
-ghost use Rattle.acsl_parser.specs.Lists.{more_separated, separated_at, with_items};
+ghost use Rattle.c_grammar.specs.ListReaders.{with_items, more_separated, separated_at};
 ghost use Rattle.acsl_parser.specs.Read as spec;
 ghost use Rattle.acsl_parser.specs.Views.{view_ending};
 
 use crate::words::{EndWord, end_word_at, place_of, starts_ending};
-use c_grammar::{Fault, expect, keyword_at, name_at, punct_at};
+use c_grammar::{Fault, Read, expect, keyword_at, name_at, punct_at};
 use c_syntax::{Names, Punct, Token};
 use std::alloc::Global;
 use wp_base::{List, NoMemory, Str};
@@ -20,7 +20,7 @@ pub enum Ending {
 }
 
 #[tactic(auto, unfolding(crate::specs::Read::plain_name_at))]
-fn plain_name_at(alloc: Global, tokens: &[Token]) -> Result<(Str, &[Token]), Fault>
+fn plain_name_at(alloc: Global, tokens: &[Token]) -> Read<'_, Str>
     ensures { Gives (λ x. x) result (spec.plain_name_at tokens.now) }
 {
     let ((name, _), rest) = name_at(alloc, tokens)?;
@@ -28,11 +28,7 @@ fn plain_name_at(alloc: Global, tokens: &[Token]) -> Result<(Str, &[Token]), Fau
 }
 
 // The names so far, and those that come after a comma.
-fn more_names<'a>(
-    alloc: Global,
-    first: List<Str>,
-    tokens: &'a [Token],
-) -> Result<(List<Str>, &'a [Token]), Fault>
+fn more_names<'a>(alloc: Global, first: List<Str>, tokens: &'a [Token]) -> Read<'a, List<Str>>
     ensures { Gives (λ xs. xs) result (with_items first (more_separated spec.plain_name_at (length tokens.now) tokens.now)) }
 {
     let mut items = first;
@@ -48,8 +44,8 @@ fn more_names<'a>(
     Ok((items, rest))
 }
 
-#[tactic(auto, using(crate::proofs::Reading::one_more), unfolding(crate::specs::Lists::separated_at))]
-fn some_names(alloc: Global, tokens: &[Token]) -> Result<(List<Str>, &[Token]), Fault>
+#[tactic(auto, using(c_grammar::proofs::Turns::one_more), unfolding(c_grammar::specs::ListReaders::separated_at))]
+fn some_names(alloc: Global, tokens: &[Token]) -> Read<'_, List<Str>>
     ensures { Gives (λ xs. xs) result (separated_at spec.plain_name_at tokens.now) }
 {
     let (item, rest) = plain_name_at(alloc, tokens)?;
@@ -60,7 +56,7 @@ fn some_names(alloc: Global, tokens: &[Token]) -> Result<(List<Str>, &[Token]), 
 
 // Names and a semicolon, or the semicolon alone.
 #[tactic(auto, unfolding(crate::specs::Read::names_at))]
-fn names_at(alloc: Global, tokens: &[Token]) -> Result<(List<Str>, &[Token]), Fault>
+fn names_at(alloc: Global, tokens: &[Token]) -> Read<'_, List<Str>>
     ensures { Gives (λ xs. xs) result (spec.names_at tokens.now) }
 {
     if let Some((_, rest)) = punct_at(Punct::Semicolon, tokens) {
@@ -81,7 +77,7 @@ fn ending_of(word: EndWord, names: Names) -> Ending
 }
 
 #[tactic(auto, unfolding(crate::specs::Read::ending_at))]
-fn ending_at(alloc: Global, end: usize, tokens: &[Token]) -> Result<(Ending, &[Token]), Fault>
+fn ending_at(alloc: Global, end: usize, tokens: &[Token]) -> Read<'_, Ending>
     ensures { Gives view_ending result (spec.ending_at end tokens.now) }
 {
     let Some(((word, line), rest)) = end_word_at(tokens) else {
@@ -96,11 +92,7 @@ fn ending_at(alloc: Global, end: usize, tokens: &[Token]) -> Result<(Ending, &[T
 }
 
 /// What is said of behaviors, as long as something is.
-pub fn endings_at(
-    alloc: Global,
-    end: usize,
-    tokens: &[Token],
-) -> Result<(List<Ending>, &[Token]), Fault>
+pub fn endings_at(alloc: Global, end: usize, tokens: &[Token]) -> Read<'_, List<Ending>>
     ensures { Gives (map view_ending) result (spec.all_endings_at end tokens.now) }
 {
     let mut items = List::new(alloc);

@@ -1,12 +1,12 @@
 // Clauses one after another (ACSL 2.3, 2.4.2, 2.5).
-ghost use Rattle.std.specs.Prelude.{◌≡◌, ◌≤◌, ◌-◌, map};
+ghost use Rattle.std.specs.Prelude.{◌≡◌, ◌-◌, map};
 ghost use Rattle.c_grammar.specs.Views.{Gives};
 ghost use Rattle.acsl_parser.specs.Read as spec;
 ghost use Rattle.parse_clauses.specs.Views.{view_item};
 
 use crate::clauses::{assigns_at, pred_ended, term_ended};
 use crate::words::{ClauseWord, LoopWord, clause_word_at, loop_word_at, place_of, starts_item};
-use c_grammar::Fault;
+use c_grammar::{Fault, Read};
 use c_syntax::{Clause, Measure, Pred, Term, Token};
 use parse_clauses::Item;
 use std::alloc::Global;
@@ -33,8 +33,7 @@ fn loop_item_at<'a>(
     place: usize,
     line: Line,
     tokens: &'a [Token],
-) -> Result<(Item, &'a [Token]), Fault>
-    requires { room ≤ 200 }
+) -> Read<'a, Item>
     ensures { Gives view_item result (spec.loop_item_at types.now room place line tokens.now) }
 {
     let Some(((word, _), rest)) = loop_word_at(tokens) else {
@@ -65,8 +64,7 @@ fn item_behind<'a>(
     line: Line,
     word: ClauseWord,
     tokens: &'a [Token],
-) -> Result<(Item, &'a [Token]), Fault>
-    requires { room ≤ 200 }
+) -> Read<'a, Item>
     ensures { Gives view_item result (spec.item_by types.now room place line word tokens.now) }
 {
     match word {
@@ -102,8 +100,7 @@ fn item_at<'a>(
     room: u32,
     end: usize,
     tokens: &'a [Token],
-) -> Result<(Item, &'a [Token]), Fault>
-    requires { room ≤ 200 }
+) -> Read<'a, Item>
     ensures { Gives view_item result (spec.item_at types.now room end tokens.now) }
 {
     let Some(((word, line), rest)) = clause_word_at(tokens) else {
@@ -119,8 +116,7 @@ pub fn items_at<'a>(
     room: u32,
     end: usize,
     tokens: &'a [Token],
-) -> Result<(List<Item>, &'a [Token]), Fault>
-    requires { room ≤ 200 }
+) -> Read<'a, List<Item>>
     ensures { Gives (map view_item) result (spec.items_at types.now room end tokens.now) }
 {
     let mut items = List::new(alloc);

@@ -6,11 +6,16 @@ mod annots;
 mod behaviors;
 mod clauses;
 mod endings;
+mod exact;
 mod items;
 mod logics;
 mod part;
 mod places;
 mod words;
 
-pub use annots::{assert_at, contract_at, logic_at, logics_at, loop_at};
+pub use annots::{assert_at, contract_at, loop_at};
+pub use exact::{
+    assert_is_exact, contract_is_exact, logic_is_exact, logics_are_exact, loop_is_exact,
+};
+pub use logics::{logic_at, logics_at};
 pub use places::{parse_assert, parse_contract, parse_global, parse_loop};

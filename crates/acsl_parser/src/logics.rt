@@ -2,14 +2,13 @@
 ghost use Rattle.std.specs.Prelude.{◌≡◌, map, length};
 ghost use Rattle.c_syntax.specs.View.{view_logic, view_var};
 ghost use Rattle.c_grammar.specs.Views.{Gives};
+ghost use Rattle.c_grammar.specs.ListReaders.{with_items, more_separated, separated_at};
 ghost use Rattle.parse_preds.specs.Read.{typed_at as typed_of};
-ghost use Rattle.acsl_parser.specs.Lists.{more_separated, separated_at, with_items};
 ghost use Rattle.acsl_parser.specs.Read as spec;
 
-use crate::behaviors::MOST_OPEN;
 use crate::clauses::{pred_ended, term_ended};
 use crate::words::{LogicWord, logic_word_at, starts_logic};
-use c_grammar::{Fault, expect, new_name_at, punct_at};
+use c_grammar::{DEEPEST, Fault, Read, expect, new_name_at, punct_at};
 use c_syntax::{LogicBody, LogicDecl, Punct, Token, VarDecl};
 use parse_preds::typed_at;
 use std::alloc::Global;
@@ -21,7 +20,7 @@ fn more_params<'a>(
     types: &[Str],
     first: List<VarDecl>,
     tokens: &'a [Token],
-) -> Result<(List<VarDecl>, &'a [Token]), Fault>
+) -> Read<'a, List<VarDecl>>
     ensures { Gives (map view_var) result (with_items (map view_var first) (more_separated (typed_of types.now) (length tokens.now) tokens.now)) }
 {
     let mut items = first;
@@ -37,12 +36,8 @@ fn more_params<'a>(
     Ok((items, rest))
 }
 
-#[tactic(auto, using(crate::proofs::Reading::one_more), unfolding(crate::specs::Lists::separated_at))]
-fn some_params<'a>(
-    alloc: Global,
-    types: &[Str],
-    tokens: &'a [Token],
-) -> Result<(List<VarDecl>, &'a [Token]), Fault>
+#[tactic(auto, using(c_grammar::proofs::Turns::one_more), unfolding(c_grammar::specs::ListReaders::separated_at))]
+fn some_params<'a>(alloc: Global, types: &[Str], tokens: &'a [Token]) -> Read<'a, List<VarDecl>>
     ensures { Gives (map view_var) result (separated_at (typed_of types.now) tokens.now) }
 {
     let (item, rest) = typed_at(alloc, types, tokens)?;
@@ -53,11 +48,7 @@ fn some_params<'a>(
 
 // Parameters in parentheses, or none.
 #[tactic(auto, unfolding(crate::specs::Read::params_at))]
-fn params_at<'a>(
-    alloc: Global,
-    types: &[Str],
-    tokens: &'a [Token],
-) -> Result<(List<VarDecl>, &'a [Token]), Fault>
+fn params_at<'a>(alloc: Global, types: &[Str], tokens: &'a [Token]) -> Read<'a, List<VarDecl>>
     ensures { Gives (map view_var) result (spec.params_at types.now tokens.now) }
 {
     let Some((_, rest)) = punct_at(Punct::OpenParen, tokens) else {
@@ -70,17 +61,13 @@ fn params_at<'a>(
 
 // What stands behind `predicate`.
 #[tactic(auto, unfolding(crate::specs::Read::predicate_at))]
-fn predicate_at<'a>(
-    alloc: Global,
-    types: &[Str],
-    tokens: &'a [Token],
-) -> Result<(LogicDecl, &'a [Token]), Fault>
+fn predicate_at<'a>(alloc: Global, types: &[Str], tokens: &'a [Token]) -> Read<'a, LogicDecl>
     ensures { Gives view_logic result (spec.predicate_at types.now tokens.now) }
 {
     let ((name, line), rest) = new_name_at(alloc, types, tokens)?;
     let (params, rest) = params_at(alloc, types, rest)?;
     let (_, rest) = expect(Punct::Assign, rest)?;
-    let (body, rest) = pred_ended(alloc, types, MOST_OPEN, rest)?;
+    let (body, rest) = pred_ended(alloc, types, DEEPEST, rest)?;
     let declared = LogicDecl {
         name,
         result: None,
@@ -105,27 +92,19 @@ fn function_of(var: VarDecl, params: List<VarDecl>, body: LogicBody) -> LogicDec
 
 // What stands behind `logic`.
 #[tactic(auto, unfolding(crate::specs::Read::function_at))]
-fn function_at<'a>(
-    alloc: Global,
-    types: &[Str],
-    tokens: &'a [Token],
-) -> Result<(LogicDecl, &'a [Token]), Fault>
+fn function_at<'a>(alloc: Global, types: &[Str], tokens: &'a [Token]) -> Read<'a, LogicDecl>
     ensures { Gives view_logic result (spec.function_at types.now tokens.now) }
 {
     let (var, rest) = typed_at(alloc, types, tokens)?;
     let (params, rest) = params_at(alloc, types, rest)?;
     let (_, rest) = expect(Punct::Assign, rest)?;
-    let (body, rest) = term_ended(alloc, types, MOST_OPEN, rest)?;
+    let (body, rest) = term_ended(alloc, types, DEEPEST, rest)?;
     Ok((function_of(var, params, LogicBody::Term(body)), rest))
 }
 
-/// A definition.
+/// A definition of a predicate or a logic function.
 #[tactic(auto, unfolding(crate::specs::Read::logic_at))]
-pub fn read_logic<'a>(
-    alloc: Global,
-    types: &[Str],
-    tokens: &'a [Token],
-) -> Result<(LogicDecl, &'a [Token]), Fault>
+pub fn logic_at<'a>(alloc: Global, types: &[Str], tokens: &'a [Token]) -> Read<'a, LogicDecl>
     ensures { Gives view_logic result (spec.logic_at types.now tokens.now) }
 {
     let Some(((word, _), rest)) = logic_word_at(tokens) else {
@@ -139,11 +118,7 @@ pub fn read_logic<'a>(
 
 /// Definitions, at least one.
 #[tactic(auto, using(crate::proofs::Reading::logics_none))]
-pub fn read_logics<'a>(
-    alloc: Global,
-    types: &[Str],
-    tokens: &'a [Token],
-) -> Result<(List<LogicDecl>, &'a [Token]), Fault>
+pub fn logics_at<'a>(alloc: Global, types: &[Str], tokens: &'a [Token]) -> Read<'a, List<LogicDecl>>
     ensures { Gives (map view_logic) result (spec.logics_at types.now tokens.now) }
 {
     if !starts_logic(tokens) {
@@ -155,7 +130,7 @@ pub fn read_logics<'a>(
         if !starts_logic(rest) {
             return Ok((items, rest));
         }
-        let (item, after) = read_logic(alloc, types, rest)?;
+        let (item, after) = logic_at(alloc, types, rest)?;
         items.push(item)?;
         rest = after;
     }

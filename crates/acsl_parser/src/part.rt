@@ -1,11 +1,10 @@
 // Clauses that stand together (ACSL 2.3, 2.4.2, 2.5).
-ghost use Rattle.std.specs.Prelude.{◌≤◌};
 ghost use Rattle.c_grammar.specs.Views.{Gives};
 ghost use Rattle.parse_clauses.specs.Views.{view_sorted};
 ghost use Rattle.acsl_parser.specs.Read as spec;
 
 use crate::items::items_at;
-use c_grammar::Fault;
+use c_grammar::{Fault, Read};
 use c_syntax::Token;
 use parse_clauses::{Part, Sorted, are_in, are_single, sort};
 use std::alloc::Global;
@@ -20,8 +19,7 @@ pub fn part_at<'a>(
     room: u32,
     end: usize,
     tokens: &'a [Token],
-) -> Result<(Sorted, &'a [Token]), Fault>
-    requires { room ≤ 200 }
+) -> Read<'a, Sorted>
     ensures { Gives view_sorted result (spec.part_at part types.now room end tokens.now) }
 {
     let (items, rest) = items_at(alloc, types, room, end, tokens)?;

@@ -4,14 +4,16 @@ ghost use Rattle.c_syntax.specs.Contract as n;
 ghost use Rattle.c_syntax.specs.Decl as d;
 ghost use Rattle.c_syntax.specs.Pred as r;
 ghost use Rattle.c_syntax.specs.View.{view_contract, view_logic, view_loop, view_pred};
+ghost use Rattle.c_grammar.specs.declared.limits.TheConstants.{DEEPEST};
 ghost use Rattle.c_grammar.specs.Annots.{SpellsContract, SpellsLogic, SpellsLoop};
 ghost use Rattle.acsl_parser.specs.Places as spec;
 ghost use Rattle.acsl_parser.specs.Places.{OnlyPart, RefusesAt, StandsAt};
 ghost use Rattle.acsl_parser.specs.Spelled.{SpellsAssertAlone};
 
-use crate::annots::{assert_at, contract_at, logic_at, loop_at};
+use crate::annots::{assert_at, contract_at, loop_at};
+use crate::logics::logic_at;
 use crate::words::place_of;
-use c_grammar::Fault;
+use c_grammar::{DEEPEST, Fault, Read};
 use c_syntax::{Contract, LogicDecl, LoopAnnot, Pred, Token, TokenKind, Tokens};
 use std::alloc::Global;
 use wp_base::{Line, List, Refusal, Rule, Stop, Str};
@@ -52,7 +54,7 @@ fn placed<T: Drop>(
     closes: bool,
     end: usize,
     line: Line,
-    found: Result<(T, &[Token]), Fault>,
+    found: Read<'_, T>,
 ) -> Result<(T, usize), Stop>
     ensures { result ≡ spec.placed closes end line found.entry }
 {
@@ -97,18 +99,24 @@ pub fn parse_loop(
     at: usize,
 ) -> Result<(LoopAnnot, usize), Stop>
     requires place { at < length tokens.now }
-    requires few { depth ≤ 200 }
-    ensures spelled { IfOk result (λ x. StandsAt (SpellsLoop types.now (200 - depth) at) true tokens.now at (view_loop x.0) x.1) }
-    ensures only { (c : n.LoopAnnot) (next : ℕ) → StandsAt (SpellsLoop types.now (200 - depth) at) true tokens.now at c next → OnlyPart view_loop result c next }
+    requires few { depth ≤ DEEPEST }
+    ensures spelled { IfOk result (λ x. StandsAt (SpellsLoop types.now (DEEPEST - depth) at) true tokens.now at (view_loop x.0) x.1) }
+    ensures only { (c : n.LoopAnnot) (next : ℕ) → StandsAt (SpellsLoop types.now (DEEPEST - depth) at) true tokens.now at c next → OnlyPart view_loop result c next }
     ensures refusal { (x : Refusal) → result ≡ Err (Stop.Refused x) → RefusesAt tokens.now at x }
 {
     let all = tokens.as_slice();
-    let found = loop_at(alloc, types.as_slice(), 200 - depth, all.len(), &all[at..]);
+    let found = loop_at(
+        alloc,
+        types.as_slice(),
+        DEEPEST - depth,
+        all.len(),
+        &all[at..],
+    );
     placed(true, all.len(), all[at].line, found)
 }
 
 // An assertion without the line of its word.
-fn without_line(found: Result<((Pred, Line), &[Token]), Fault>) -> Result<(Pred, &[Token]), Fault>
+fn without_line(found: Read<'_, (Pred, Line)>) -> Read<'_, Pred>
     ensures { result ≡ spec.without_line found.entry }
 {
     match found {
@@ -127,13 +135,13 @@ pub fn parse_assert(
     at: usize,
 ) -> Result<(Pred, usize), Stop>
     requires place { at < length tokens.now }
-    requires few { depth ≤ 200 }
-    ensures spelled { IfOk result (λ x. StandsAt (SpellsAssertAlone types.now (200 - depth)) true tokens.now at (view_pred x.0) x.1) }
-    ensures only { (a : r.Pred) (next : ℕ) → StandsAt (SpellsAssertAlone types.now (200 - depth)) true tokens.now at a next → OnlyPart view_pred result a next }
+    requires few { depth ≤ DEEPEST }
+    ensures spelled { IfOk result (λ x. StandsAt (SpellsAssertAlone types.now (DEEPEST - depth)) true tokens.now at (view_pred x.0) x.1) }
+    ensures only { (a : r.Pred) (next : ℕ) → StandsAt (SpellsAssertAlone types.now (DEEPEST - depth)) true tokens.now at a next → OnlyPart view_pred result a next }
     ensures refusal { (x : Refusal) → result ≡ Err (Stop.Refused x) → RefusesAt tokens.now at x }
 {
     let all = tokens.as_slice();
-    let found = assert_at(alloc, types.as_slice(), 200 - depth, &all[at..]);
+    let found = assert_at(alloc, types.as_slice(), DEEPEST - depth, &all[at..]);
     placed(true, all.len(), all[at].line, without_line(found))
 }
 

@@ -1,9 +1,10 @@
 -- Levels of operators, each grouped to the left: what is read is spelled so, and what is spelled is read.
-use Rattle.std.proofs.Common.{◌≡◌, ℕ, zero, suc, ◌≤◌, List, [], ◌∷◌, ◌++◌, length, Option, Some, None, refl, sym, ap, ◌∙◌, subst, ⊎_elim, arith, append_assoc, append-nil, length-append}
+use Rattle.std.proofs.Common.{◌≡◌, ℕ, zero, suc, ◌≤◌, List, [], ◌∷◌, ◌++◌, length, Some, None, refl, sym, ap, ◌∙◌, subst, ⊎_elim, arith, append_assoc, append-nil, length-append}
 use Rattle.std.proofs.lemmas.Bool.{cases_lt}
 use Rattle.c_syntax.specs.declared.token.Token.{Token}
 use Rattle.c_grammar.specs.Reading.{Reader, ◌>>=◌, linked, chain, levels}
-use Rattle.c_grammar.proofs.Readers.{Took, Sound, bind_ok, got, pair_is}
+use Rattle.c_grammar.proofs.Readers.{Sound, bind_ok, got, pair_is}
+use Rattle.c_grammar.proofs.Chains.{chain_stops}
 
 -- ---- what is read is spelled so
 
@@ -63,12 +64,6 @@ Ends operator n ts = (m : ℕ) → m ≤ n → operator m ts ≡ None
 
 pub ends_fewer : {O : Type 0} (operator : ℕ → Reader (O × ℕ)) (m n : ℕ) (ts : List Token) → m ≤ n → Ends operator n ts → Ends operator m ts
 ends_fewer operator m n ts le h i less = h i (omega arith)
-
-chain_stops : {X O : Type 0} (make : O → ℕ → X → X → X) (operator : Reader (O × ℕ)) (turns : ℕ) (p : Reader X) (a : X) (ts : List Token) → operator ts ≡ None
-    → chain make operator p turns a ts ≡ Some (a, ts)
-unfolding chain
-chain_stops make operator zero p a ts h = refl
-chain_stops make operator (suc turns) p a ts h = rw h refl
 
 -- Where operators of level n may still come, the reader of the level has read e and goes on with them. An operand ends only where `Stops` holds of what comes next.
 abbrev pub Reads : {X O : Type 0} → (make : O → ℕ → X → X → X) → (operator : ℕ → Reader (O × ℕ)) → (Stops : List Token → Type 0) → ℕ → Reader X → List Token → X → Type 0

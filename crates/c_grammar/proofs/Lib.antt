@@ -1,2 +1,6 @@
 pub mod Readers
+pub mod SingleTokens
+pub mod Chains
 pub mod Levels
+pub mod Separating
+pub mod Turns

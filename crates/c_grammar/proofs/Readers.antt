@@ -1,7 +1,11 @@
 -- What readers read, in general.
-use Rattle.std.proofs.Common.{◌≡◌, ℕ, Bool, true, false, cond, List, [], ◌∷◌, ◌++◌, Option, Some, None, refl, sym, ap, ◌∙◌, append_assoc}
+use Rattle.std.proofs.Common.{◌≡◌, Bool, true, false, cond, List, Option, Some, None, Err, refl, ap}
 use Rattle.c_syntax.specs.declared.token.Token.{Token}
-use Rattle.c_grammar.specs.Reading.{Reader, ◌>>=◌}
+use Rattle.c_grammar.specs.declared.fault.Fault.{Fault}
+use Rattle.c_grammar.specs.declared.fault.Fault.TheVariants.{Syntax, NoMemory}
+use Rattle.c_grammar.specs.Reading.{◌>>=◌}
+use Rattle.c_grammar.specs.Views.{Gives}
+pub use Rattle.c_grammar.specs.Exactness.{Took, Sound}
 
 pub bind_ok : {X Y : Type 0} (o : Option X) (f : X → Option Y) (y : Y) → (o >>= f) ≡ Some y → (x : X) × (o ≡ Some x) × (f x ≡ Some y)
 bind_ok None f y h = absurd cc
@@ -21,10 +25,8 @@ pair_is {X} {Y} a b x y h =
     let same : u ≡ v = cc in
     (ap (λ (p : X × Y). p.0) same, ap (λ (p : X × Y). p.1) same)
 
--- some tokens at the front are spelled so, and these come after them
-abbrev pub Took : {X : Type 0} → (List Token → X → Type 0) → List Token → X → List Token → Type 0
-Took S ts a rest = (xs : List Token) × (ts ≡ xs ++ rest) × S xs a
-
--- what is read is spelled so
-abbrev pub Sound : {X : Type 0} → (List Token → X → Type 0) → Reader X → Type 0
-Sound {X} S read = (ts : List Token) (a : X) (rest : List Token) → read ts ≡ Some (a, rest) → Took S ts a rest
+-- a fault of a part is that of the whole
+pub gives_fault : {X Y Z W : Type 0} (see : X → Y) (see' : Z → W) (read : Option (Y × List Token)) (f : Y × List Token → Option (W × List Token)) (e : Fault)
+    → Gives see (Err e) read → Gives see' (Err e) (read >>= f)
+gives_fault see see' read f Syntax h = rw h refl
+gives_fault see see' read f NoMemory h = tt

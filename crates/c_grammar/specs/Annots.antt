@@ -1,6 +1,6 @@
 -- Contracts, annotations of loops, assertions and definitions (ACSL 2.3, 2.4, 2.5, 2.6) as relations between whole token lists and plain trees.
 -- Each clause has the line and the place of its first token; `at` is the place of the first token of a part.
-use Rattle.std.specs.Prelude.{◌≡◌, ℕ, ◌+◌, suc, Bool, true, false, ◌&&◌, nat_le, List, [], ◌∷◌, ◌++◌, length, map, codes, Option, Some, None}
+use Rattle.std.specs.Prelude.{◌≡◌, ℕ, ◌+◌, Bool, true, false, ◌&&◌, List, [], ◌∷◌, ◌++◌, length, codes, Option, Some, None}
 use Rattle.std.specs.List.{list_all}
 use Rattle.c_syntax.specs.declared.annot.Names.{Names as Behaviors}
 use Rattle.c_syntax.specs.declared.token.Token.{Token}
@@ -11,10 +11,11 @@ use Rattle.c_syntax.specs.Term as t
 use Rattle.c_syntax.specs.Pred as r
 use Rattle.c_syntax.specs.Contract.{Clause, Measure, AssignsClause, Behavior, Contract, LoopAnnot}
 use Rattle.c_syntax.specs.Decl as d
-use Rattle.c_grammar.specs.Tokens.{Names, is_type, punct, word, name, annot_open, annot_close, most_open}
-use Rattle.c_grammar.specs.Lists.{Separated, Repeated}
+use Rattle.c_grammar.specs.Tokens.{Names, is_type, punct, word, name}
+use Rattle.c_grammar.specs.Lists.{Separated}
 use Rattle.c_grammar.specs.Terms.{anywhere, SpellsTerm, SpellsEntry}
 use Rattle.c_grammar.specs.Preds.{SpellsPred, SpellsLogicType, SpellsTyped}
+use Rattle.c_grammar.specs.declared.limits.TheConstants.{DEEPEST}
 
 -- ---- sets (ACSL 2.3.4)
 
@@ -183,7 +184,7 @@ may_stand is_in items = list_all is_in items && (is_at_most_one (assigns_of item
 -- "behavior" NAME ":" {clause}
 pub data SpellsBehavior (types : Names) (at : ℕ) : List Token → Behavior → Type 0 where
   behavior : (line line'' : ℕ) {line' : ℕ} {x : List ℕ} {inside all : List Token} {items : List Item} {b : Behavior}
-      → is_type types x ≡ false → SpellsItems types most_open (at + 3) inside items → may_stand is_in_behavior items ≡ true
+      → is_type types x ≡ false → SpellsItems types DEEPEST (at + 3) inside items → may_stand is_in_behavior items ≡ true
       → all ≡ name (codes "behavior") line ∷ name x line' ∷ punct p.Colon line'' ∷ inside
       → b ≡ record {
         name = x;
@@ -257,7 +258,7 @@ contract_of items behaviors endings = record {
 -- {clause} {behavior} {ending}
 pub data SpellsContract (types : Names) (at : ℕ) : List Token → Contract → Type 0 where
   contract : {first second third all : List Token} {items : List Item} {behaviors : List Behavior} {endings : List Ending} {c : Contract}
-      → SpellsItems types most_open at first items → may_stand is_in_contract items ≡ true
+      → SpellsItems types DEEPEST at first items → may_stand is_in_contract items ≡ true
       → SpellsBehaviors types (at + length first) second behaviors
       → SpellsEndings (at + length first + length second) third endings
       → all ≡ first ++ (second ++ third) → c ≡ contract_of items behaviors endings → SpellsContract types at all c
@@ -292,11 +293,11 @@ pub data SpellsLogicParams (types : Names) : List Token → List e.VarDecl → T
 pub data SpellsLogic (types : Names) : List Token → d.LogicDecl → Type 0 where
   -- "predicate" NAME [params] "=" pred ";"
   predicate : (line line'' line''' : ℕ) {line' : ℕ} {trails : Bool} {x : List ℕ} {params body all : List Token} {xs : List e.VarDecl} {a : r.Pred}
-      → is_type types x ≡ false → SpellsLogicParams types params xs → SpellsPred types most_open trails body a
+      → is_type types x ≡ false → SpellsLogicParams types params xs → SpellsPred types DEEPEST trails body a
       → all ≡ name (codes "predicate") line ∷ name x line' ∷ (params ++ punct p.Assign line'' ∷ (body ++ punct p.Semicolon line''' ∷ []))
       → SpellsLogic types all (record { name = x; result = None; params = xs; body = d.pred a; line = line' })
   -- "logic" ltype NAME [params] "=" term ";"
   logic : (line line'' line''' : ℕ) {line' : ℕ} {x : List ℕ} {result params body all : List Token} {type : e.CType} {xs : List e.VarDecl} {a : t.Term}
-      → SpellsLogicType types result type → is_type types x ≡ false → SpellsLogicParams types params xs → SpellsTerm types anywhere most_open body a
+      → SpellsLogicType types result type → is_type types x ≡ false → SpellsLogicParams types params xs → SpellsTerm types anywhere DEEPEST body a
       → all ≡ name (codes "logic") line ∷ (result ++ name x line' ∷ (params ++ punct p.Assign line'' ∷ (body ++ punct p.Semicolon line''' ∷ [])))
       → SpellsLogic types all (record { name = x; result = Some type; params = xs; body = d.term a; line = line' })

@@ -1,5 +1,5 @@
 -- Declarators and declarations of variables (C11 6.7, 6.7.6) as relations between whole token lists and plain trees.
-use Rattle.std.specs.Prelude.{◌≡◌, ℕ, suc, Bool, true, false, List, [], ◌∷◌, ◌++◌, Option, Some, None}
+use Rattle.std.specs.Prelude.{◌≡◌, ℕ, suc, true, false, List, [], ◌∷◌, ◌++◌, Some, None}
 use Rattle.c_syntax.specs.declared.token.Token.{Token}
 use Rattle.c_syntax.specs.declared.token.Punct.TheVariants as p
 use Rattle.c_syntax.specs.Expr as e

@@ -1,5 +1,5 @@
 -- Declarations and whole files (C11 6.7, 6.9; ACSL 2.6) as relations between whole token lists and plain trees, and which files pass a limit.
-use Rattle.std.specs.Prelude.{◌≡◌, ℕ, ◌+◌, ◌≤◌, suc, Bool, true, false, if◌then◌else◌, nat_le, List, [], ◌∷◌, ◌++◌, length, map, slice_get, Option, Some, None}
+use Rattle.std.specs.Prelude.{◌≡◌, ℕ, ◌+◌, ◌≤◌, suc, false, if◌then◌else◌, nat_le, List, [], ◌∷◌, ◌++◌, length, map, slice_get, Option, Some, None}
 use Rattle.wp_base.specs.declared.kinds.Kind.TheVariants as kind
 use Rattle.c_syntax.specs.declared.token.Token.{Token}
 use Rattle.c_syntax.specs.declared.token.Punct.TheVariants as p
@@ -8,17 +8,14 @@ use Rattle.c_syntax.specs.Expr as e
 use Rattle.c_syntax.specs.Stmt as s
 use Rattle.c_syntax.specs.Contract.{Contract}
 use Rattle.c_syntax.specs.Decl as d
-use Rattle.c_grammar.specs.Tokens.{Names, is_type, punct, word, name, annot_open, annot_close, first_line, most_open}
+use Rattle.c_grammar.specs.Tokens.{Names, is_type, punct, word, name, annot_open, annot_close, first_line}
 use Rattle.c_grammar.specs.Lists.{Separated, Repeated}
 use Rattle.c_grammar.specs.Types.{SpellsType, SpellsStars}
 use Rattle.c_grammar.specs.Exprs.{SpellsCond}
 use Rattle.c_grammar.specs.Annots.{SpellsContract, SpellsLogic, contract_of}
 use Rattle.c_grammar.specs.Declarators.{declared, with_init, SpellsDeclarator, SpellsVariables, SpellsParamOn}
 use Rattle.c_grammar.specs.Stmts.{SpellsBlock}
-
--- within one bracket of a declaration
-abbrev pub most_within : ℕ
-most_within = 199
+use Rattle.c_grammar.specs.declared.limits.TheConstants.{DEEPEST, MOST_WITHIN, MOST_FUNCTIONS, MOST_PARAMS, MOST_STMTS}
 
 -- ---- structs and enums (C11 6.7.2.1, 6.7.2.2)
 
@@ -75,7 +72,7 @@ pub data SpellsContractAt (types : Names) (at : ℕ) : List Token → Contract �
 pub data SpellsEnd (types : Names) (at : ℕ) : List Token → (body : Option s.Stmt) (end : ℕ) (starts : List ℕ) → Type 0 where
   prototype : {end : ℕ} → SpellsEnd types at (punct p.Semicolon end ∷ []) None end []
   body : {line end : ℕ} {all : List Token} {body : s.Stmts} {starts : List ℕ}
-      → SpellsBlock types false false most_open at all line end body starts → SpellsEnd types at all (Some (s.block line body)) end starts
+      → SpellsBlock types false false DEEPEST at all line end body starts → SpellsEnd types at all (Some (s.block line body)) end starts
 
 -- where a function, its parameters and its statements begin
 pub record Lines : Type 0 where
@@ -94,7 +91,7 @@ pub data SpellsFunction (types : Names) (at : ℕ) : List Token → d.Function �
   function : {line end : ℕ} (line' line'' : ℕ) {x : List ℕ} {t t' : e.CType} {c : Contract} {vs : List (e.VarDecl × ℕ)} {body : Option s.Stmt} {starts : List ℕ}
       {first second third fourth inside last before all : List Token} {f : d.Function} {ls : Lines}
       → SpellsContractAt types at first c → SpellsLinkage second → SpellsType types third t → SpellsStars false fourth t t'
-      → is_type types x ≡ false → SpellsParams types most_within inside vs
+      → is_type types x ≡ false → SpellsParams types MOST_WITHIN inside vs
       → before ≡ first ++ (second ++ (third ++ (fourth ++ name x line ∷ punct p.OpenParen line' ∷ (inside ++ punct p.CloseParen line'' ∷ []))))
       → SpellsEnd types (at + length before) last body end starts
       → all ≡ before ++ last
@@ -110,21 +107,21 @@ pub data SpellsDecl (types : Names) (at : ℕ) : List Token → List d.Decl → 
       → Repeated (SpellsLogic types) inside (x ∷ xs)
       → all ≡ annot_open line ∷ (inside ++ annot_close line' ∷ []) → ds ≡ map d.logic_decl (x ∷ xs) → SpellsDecl types at all ds types []
   struct_of : (line line'' line''' line'''' : ℕ) {line' : ℕ} {x : List ℕ} {inside all : List Token} {vs : List e.VarDecl}
-      → is_type types x ≡ false → SpellsFields types most_within inside vs
+      → is_type types x ≡ false → SpellsFields types MOST_WITHIN inside vs
       → all ≡ word w.Struct line ∷ name x line' ∷ punct p.OpenBrace line'' ∷ (inside ++ punct p.CloseBrace line''' ∷ punct p.Semicolon line'''' ∷ [])
       → SpellsDecl types at all (d.struct_decl (record { name = x; fields = vs; line = line' }) ∷ []) types []
   enum_of : (line : ℕ) {line' : ℕ} {x : List ℕ} {rest : List Token} {vs : List e.VarDecl}
-      → is_type types x ≡ false → SpellsEnumerators types most_open rest vs
+      → is_type types x ≡ false → SpellsEnumerators types DEEPEST rest vs
       → SpellsDecl types at (word w.Enum line ∷ name x line' ∷ rest) (d.enum_decl (record { name = Some x; items = vs; line = line' }) ∷ []) types []
   enum_alone : {line : ℕ} {rest : List Token} {vs : List e.VarDecl}
-      → SpellsEnumerators types most_open rest vs
+      → SpellsEnumerators types DEEPEST rest vs
       → SpellsDecl types at (word w.Enum line ∷ rest) (d.enum_decl (record { name = None; items = vs; line = line }) ∷ []) types []
   typedef_of : (line line' : ℕ) {first second all : List Token} {t : e.CType} {v : e.VarDecl} {after : Names}
-      → SpellsType types first t → SpellsDeclarator types most_open t second v
+      → SpellsType types first t → SpellsDeclarator types DEEPEST t second v
       → all ≡ word w.Typedef line ∷ (first ++ (second ++ punct p.Semicolon line' ∷ [])) → after ≡ types ++ v.name ∷ []
       → SpellsDecl types at all (d.typedef_decl v ∷ []) after []
   globals : {first second all : List Token} {vs : List e.VarDecl}
-      → SpellsLinkage first → SpellsVariables types most_open second vs
+      → SpellsLinkage first → SpellsVariables types DEEPEST second vs
       → all ≡ first ++ second → SpellsDecl types at all (d.globals vs ∷ []) types []
   function : {all : List Token} {f : d.Function} {ls : Lines}
       → SpellsFunction types at all f ls → SpellsDecl types at all (d.function f ∷ []) types (ls ∷ [])
@@ -157,15 +154,6 @@ pub record IsUnspelledOn (tokens : List Token) (line : ℕ) : Type 0 where
 
 -- ---- limits: functions of a file, parameters and statements of a function
 
-abbrev pub most_functions : ℕ
-most_functions = 500
-
-abbrev pub most_params : ℕ
-most_params = 32
-
-abbrev pub most_stmts : ℕ
-most_stmts = 2000
-
 abbrev pub or_else : Option ℕ → Option ℕ → Option ℕ
 or_else None other = other
 or_else (Some line) other = Some line
@@ -174,5 +162,5 @@ or_else (Some line) other = Some line
 abbrev pub past_limit : (k : ℕ) → List Lines → Option ℕ
 past_limit k [] = None
 past_limit k (f ∷ fs) =
-    if nat_le most_functions k then Some f.first
-    else or_else (slice_get f.params most_params) (or_else (slice_get f.stmts most_stmts) (past_limit (suc k) fs))
+    if nat_le MOST_FUNCTIONS k then Some f.first
+    else or_else (slice_get f.params MOST_PARAMS) (or_else (slice_get f.stmts MOST_STMTS) (past_limit (suc k) fs))

@@ -1,6 +1,6 @@
 -- Expressions (C11 6.5) as relations between whole token lists and plain trees. `room` more forms may be open in them: brackets with
 -- their contents, the operands of prefix operators and casts, and the arms of `?`.
-use Rattle.std.specs.Prelude.{◌≡◌, ℕ, ℤ, suc, ◌≤◌, Bool, true, false, List, [], ◌∷◌, ◌++◌, Option, Some, None}
+use Rattle.std.specs.Prelude.{◌≡◌, ℕ, ℤ, suc, ◌≤◌, Bool, true, false, List, [], ◌∷◌, ◌++◌, Option, Some}
 use Rattle.c_syntax.specs.declared.token.Token.{Token}
 use Rattle.c_syntax.specs.declared.token.Base.{Base}
 use Rattle.c_syntax.specs.declared.token.Suffix.{Suffix}
@@ -10,7 +10,7 @@ use Rattle.c_syntax.specs.declared.token.Word.TheVariants as w
 use Rattle.c_syntax.specs.declared.expr.UnOp.{UnOp}
 use Rattle.c_syntax.specs.declared.expr.BinOp.{BinOp}
 use Rattle.c_syntax.specs.Expr as e
-use Rattle.c_grammar.specs.Tokens.{Names, is_type, token, punct, word, name, number, char}
+use Rattle.c_grammar.specs.Tokens.{Names, is_type, punct, word, name, number, char}
 use Rattle.c_grammar.specs.Operators.{unop_of, step_of, binop_of, level, loosest, assign_of, field_of}
 use Rattle.c_grammar.specs.Types.{SpellsTypeName}
 

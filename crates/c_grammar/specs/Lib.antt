@@ -10,4 +10,6 @@ pub mod Declarators
 pub mod Stmts
 pub mod Decls
 pub mod Reading
+pub mod ListReaders
+pub mod Exactness
 pub mod Views

@@ -1,12 +1,11 @@
 -- Predicates of annotations (ACSL 2.2) as relations between whole token lists and plain trees. `room` more forms may be open: brackets
 -- with their contents, the operands of `!`, the arms of `?` and the right sides of `==>`. `trails` says that a predicate ends, outside brackets,
 -- in a quantifier or `\let`, which would take whatever came behind it.
-use Rattle.std.specs.Prelude.{◌≡◌, ℕ, suc, ◌≤◌, Bool, true, false, if◌then◌else◌, List, [], ◌∷◌, ◌++◌, codes, Some, None}
+use Rattle.std.specs.Prelude.{◌≡◌, ℕ, suc, ◌≤◌, Bool, true, false, if◌then◌else◌, List, [], ◌∷◌, ◌++◌, codes, Some}
 use Rattle.std.specs.Str.{bytes_eq}
 use Rattle.c_syntax.specs.declared.token.Token.{Token}
 use Rattle.c_syntax.specs.declared.token.Punct.{Punct}
 use Rattle.c_syntax.specs.declared.token.Punct.TheVariants as p
-use Rattle.c_syntax.specs.declared.token.Word.{Word}
 use Rattle.c_syntax.specs.declared.token.Word.TheVariants as w
 use Rattle.c_syntax.specs.declared.expr.BinOp.{BinOp}
 use Rattle.c_syntax.specs.Expr as e
@@ -16,6 +15,7 @@ use Rattle.c_grammar.specs.Tokens.{Names, is_type, punct, word, name}
 use Rattle.c_grammar.specs.Lists.{Separated}
 use Rattle.c_grammar.specs.Operators.{comparison_of, is_chain, shift_level, Connective, both, one_of, either, connective_of, connective_level}
 use Rattle.c_grammar.specs.Types.{SpellsTypeName}
+use Rattle.c_grammar.specs.Declarators.{declared}
 use Rattle.c_grammar.specs.Terms.{anywhere, in_chain, SpellsTerm, SpellsTermBinary, SpellsSomeTerms, SpellsPointer}
 
 -- ---- types and names that annotations declare (ACSL 2.2, 2.6.1)
@@ -29,9 +29,6 @@ without_integer (x ∷ types) = if bytes_eq x (codes "integer") then without_int
 pub data SpellsLogicType (types : Names) : List Token → e.CType → Type 0 where
   integer : {line : ℕ} → SpellsLogicType types (name (codes "integer") line ∷ []) e.integer
   c_type : {all : List Token} {type : e.CType} → SpellsTypeName (without_integer types) all type → SpellsLogicType types all type
-
-abbrev pub declared : List ℕ → e.CType → (line : ℕ) → e.VarDecl
-declared x type line = record { name = x; ty = type; init = None; line = line }
 
 -- ltype NAME
 pub data SpellsTyped (types : Names) : List Token → e.VarDecl → Type 0 where

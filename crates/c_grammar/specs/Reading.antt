@@ -1,5 +1,5 @@
 -- Readers as functions on token lists: what is read, and the tokens after it. The parsers are made of these.
-use Rattle.std.specs.Prelude.{ℕ, zero, suc, ◌==◌, Bool, true, false, not, List, [], ◌∷◌, length, Option, Some, None, if◌then◌else◌}
+use Rattle.std.specs.Prelude.{ℕ, zero, suc, Bool, true, List, [], ◌∷◌, length, Option, Some, None, if◌then◌else◌}
 use Rattle.std.specs.Str.{bytes_eq}
 use denote.Enum.Bare.{sameb}
 use Rattle.c_syntax.specs.contracts.token.Punct.{the_type as punct_type}
@@ -68,6 +68,24 @@ keyword_by text line _ ts = None
 abbrev pub keyword_at : List ℕ → Reader ℕ
 keyword_at text [] = None
 keyword_at text (t ∷ ts) = keyword_by text t.line t.kind ts
+
+abbrev pub annot_open_by : (line : ℕ) → TokenKind → Reader ℕ
+annot_open_by line k.AnnotOpen ts = Some (line, ts)
+annot_open_by line _ ts = None
+
+-- the line of what opens an annotation, where it comes first
+abbrev pub annot_open_at : Reader ℕ
+annot_open_at [] = None
+annot_open_at (t ∷ ts) = annot_open_by t.line t.kind ts
+
+abbrev pub annot_close_by : (line : ℕ) → TokenKind → Reader ℕ
+annot_close_by line k.AnnotClose ts = Some (line, ts)
+annot_close_by line _ ts = None
+
+-- the line of what ends an annotation, where it comes first
+abbrev pub annot_close_at : Reader ℕ
+annot_close_at [] = None
+annot_close_at (t ∷ ts) = annot_close_by t.line t.kind ts
 
 -- ---- levels of operators, each grouped to the left, over any readers of operators and operands
 

@@ -1,7 +1,7 @@
 -- Statements (C11 6.8) as relations between whole token lists and plain trees. `loops` says whether a loop is around, `breaks` whether a loop or
 -- a `switch` is; `room` more forms may be open: brackets and braces with their contents, and each statement without braces that is the body of
 -- an `if`, an `else` or a loop. `at` is the place of the first token. `starts` are the lines on which the statements begin, in order.
-use Rattle.std.specs.Prelude.{◌≡◌, ℕ, ◌+◌, zero, suc, Bool, true, false, List, [], ◌∷◌, ◌++◌, length, Option, Some, None, nat_le}
+use Rattle.std.specs.Prelude.{◌≡◌, ℕ, ◌+◌, suc, Bool, true, false, List, [], ◌∷◌, ◌++◌, length, Option, Some, None, nat_le}
 use Rattle.c_syntax.specs.declared.token.Token.{Token}
 use Rattle.c_syntax.specs.declared.token.Punct.TheVariants as p
 use Rattle.c_syntax.specs.declared.token.Word.TheVariants as w

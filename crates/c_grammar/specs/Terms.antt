@@ -1,6 +1,6 @@
 -- Terms of annotations (ACSL 2.2) as relations between whole token lists and plain trees: the conditionals of C without assignments,
 -- increments and `sizeof`, with `\result`, `\null`, `\old` and `\at`. `room` more forms may be open, as in expressions.
-use Rattle.std.specs.Prelude.{◌≡◌, ℕ, ℤ, suc, ◌≤◌, Bool, true, false, not, ◌&&◌, ◌||◌, if◌then◌else◌, List, [], ◌∷◌, ◌++◌, Option, Some, None}
+use Rattle.std.specs.Prelude.{◌≡◌, ℕ, ℤ, suc, ◌≤◌, Bool, true, false, not, ◌&&◌, ◌||◌, List, [], ◌∷◌, ◌++◌, Option, Some, None}
 use Rattle.c_syntax.specs.declared.token.Token.{Token}
 use Rattle.c_syntax.specs.declared.token.Base.{Base}
 use Rattle.c_syntax.specs.declared.token.Suffix.{Suffix}
@@ -13,7 +13,7 @@ use Rattle.c_syntax.specs.declared.expr.BinOp.{BinOp}
 use Rattle.c_syntax.specs.declared.expr.BinOp.TheVariants as o
 use Rattle.c_syntax.specs.Expr.{CType}
 use Rattle.c_syntax.specs.Term as t
-use Rattle.c_grammar.specs.Tokens.{Names, is_type, token, punct, word, name, number, char}
+use Rattle.c_grammar.specs.Tokens.{Names, is_type, punct, word, name, number, char}
 use Rattle.c_grammar.specs.Operators.{unop_of, binop_of, level, loosest, field_of}
 use Rattle.c_grammar.specs.Types.{SpellsTypeName}
 

@@ -46,7 +46,3 @@ Names = List (List ℕ)
 
 abbrev pub is_type : Names → List ℕ → Bool
 is_type types x = list_any (λ t. bytes_eq t x) types
-
--- at most so many forms are open at each token
-abbrev pub most_open : ℕ
-most_open = 200

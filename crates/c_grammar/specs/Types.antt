@@ -1,5 +1,5 @@
 -- Types (C11 6.7.2, 6.7.3, 6.7.6) as relations between whole token lists and plain trees.
-use Rattle.std.specs.Prelude.{◌≡◌, ℕ, suc, ◌+◌, ◌==◌, Bool, true, false, ◌&&◌, ◌||◌, if◌then◌else◌, List, [], ◌∷◌, ◌++◌, Option, Some, None, find}
+use Rattle.std.specs.Prelude.{◌≡◌, ℕ, suc, ◌==◌, Bool, true, false, ◌&&◌, ◌||◌, if◌then◌else◌, List, [], ◌∷◌, ◌++◌, Option, Some, find}
 use Rattle.std.specs.Option.{option_map}
 use denote.Enum.Bare.{sameb}
 use Rattle.c_syntax.specs.contracts.token.Word.{the_type}

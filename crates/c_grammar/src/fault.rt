@@ -2,8 +2,12 @@
 ghost use Rattle.std.specs.Prelude.{◌≡◌};
 ghost use Rattle.c_grammar.specs.declared.fault.Fault.TheVariants as fault;
 
+use c_syntax::Token;
 use std::alloc::{AllocError, AllocFailed};
 use wp_base::NoMemory;
+
+/// What a reader answers: what it read and the tokens after it, or why it read nothing.
+pub type Read<'a, T> = Result<(T, &'a [Token]), Fault>;
 
 /// Why tokens weren't read.
 #[derive(Clone, Copy, Debug, PartialEq, Eq)]

@@ -1,13 +1,23 @@
 // Tokens at the front of a list.
 ghost use Rattle.std.specs.Prelude.{◌≡◌};
 ghost use Rattle.c_grammar.specs.Reading as spec;
-ghost use Rattle.c_grammar.specs.Tokens.{is_type as is_typedef_name};
+ghost use Rattle.c_grammar.specs.Tokens.{first_line as line_of_first, is_type as is_typedef_name};
 ghost use Rattle.c_grammar.specs.Views.{Finds, Gives};
 
-use crate::fault::Fault;
+use crate::fault::{Fault, Read};
 use c_syntax::{Punct, Token, TokenKind, Word};
 use std::alloc::Global;
 use wp_base::{Line, Str};
+
+/// The line of the first token.
+pub fn first_line(tokens: &[Token]) -> Line
+    ensures { result ≡ line_of_first tokens.now }
+{
+    match tokens.first() {
+        Some(first) => first.line,
+        None => 0,
+    }
+}
 
 /// The line of this punctuator and the tokens after it, if it comes first.
 pub fn punct_at(punct: Punct, tokens: &[Token]) -> Option<(Line, &[Token])>
@@ -21,7 +31,7 @@ pub fn punct_at(punct: Punct, tokens: &[Token]) -> Option<(Line, &[Token])>
 }
 
 /// The line of this punctuator, which has to come first, and the tokens after it.
-pub fn expect(punct: Punct, tokens: &[Token]) -> Result<(Line, &[Token]), Fault>
+pub fn expect(punct: Punct, tokens: &[Token]) -> Read<'_, Line>
     ensures { Gives (λ x. x) result (spec.punct_at punct tokens.now) }
 {
     match punct_at(punct, tokens) {
@@ -52,6 +62,28 @@ pub fn keyword_at<'a>(text: &[u8], tokens: &'a [Token]) -> Option<(Line, &'a [To
     }
 }
 
+/// The line of what opens an annotation and the tokens after it, if it comes first.
+pub fn annot_open_at(tokens: &[Token]) -> Option<(Line, &[Token])>
+    ensures { Finds (λ x. x) result (spec.annot_open_at tokens.now) }
+{
+    let (first, rest) = tokens.split_first()?;
+    match first.kind {
+        TokenKind::AnnotOpen => Some((first.line, rest)),
+        _ => None,
+    }
+}
+
+/// The line of what ends an annotation and the tokens after it, if it comes first.
+pub fn annot_close_at(tokens: &[Token]) -> Option<(Line, &[Token])>
+    ensures { Finds (λ x. x) result (spec.annot_close_at tokens.now) }
+{
+    let (first, rest) = tokens.split_first()?;
+    match first.kind {
+        TokenKind::AnnotClose => Some((first.line, rest)),
+        _ => None,
+    }
+}
+
 /// Whether a typedef declared the name.
 pub fn is_type(types: &[Str], name: &Str) -> bool
     ensures { result ≡ is_typedef_name types.now name.now }
@@ -60,7 +92,7 @@ pub fn is_type(types: &[Str], name: &Str) -> bool
 }
 
 /// A name, with its line.
-pub fn name_at(alloc: Global, tokens: &[Token]) -> Result<((Str, Line), &[Token]), Fault>
+pub fn name_at(alloc: Global, tokens: &[Token]) -> Read<'_, (Str, Line)>
     ensures { Gives (λ x. x) result (spec.name_at tokens.now) }
 {
     let Some((first, rest)) = tokens.split_first() else {
@@ -73,11 +105,7 @@ pub fn name_at(alloc: Global, tokens: &[Token]) -> Result<((Str, Line), &[Token]
 }
 
 /// A name that no typedef declared, with its line.
-pub fn new_name_at<'a>(
-    alloc: Global,
-    types: &[Str],
-    tokens: &'a [Token],
-) -> Result<((Str, Line), &'a [Token]), Fault>
+pub fn new_name_at<'a>(alloc: Global, types: &[Str], tokens: &'a [Token]) -> Read<'a, (Str, Line)>
     ensures { Gives (λ x. x) result (spec.new_name_at types.now tokens.now) }
 {
     let ((name, line), rest) = name_at(alloc, tokens)?;

@@ -8,7 +8,8 @@ use Rattle.c_syntax.specs.declared.token.Token.{Token}
 use Rattle.c_syntax.specs.declared.decl.Program.{Program}
 use Rattle.c_syntax.specs.Decl as d
 use Rattle.c_syntax.specs.View.{view_program}
-use Rattle.c_grammar.specs.Decls.{Lines, past_limit, or_else, most_params, most_stmts, SpellsLines, IsUnspelledOn}
+use Rattle.c_grammar.specs.Decls.{Lines, past_limit, or_else, SpellsLines, IsUnspelledOn}
+use Rattle.c_grammar.specs.declared.limits.TheConstants.{MOST_PARAMS, MOST_STMTS}
 use Rattle.parse_file.specs.Read.{Front, file_front}
 
 pub data Outcome : Type 0 where
@@ -67,4 +68,4 @@ OnlyRefused (Err end) x = (end ≡ stop.Refused x) ⊎ (end ≡ stop.NoMemory)
 
 -- the line of the first parameter, or else of the first statement, that is one too many
 abbrev pub line_within : Lines → Option ℕ
-line_within f = or_else (slice_get f.params most_params) (slice_get f.stmts most_stmts)
+line_within f = or_else (slice_get f.params MOST_PARAMS) (slice_get f.stmts MOST_STMTS)

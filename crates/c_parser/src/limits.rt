@@ -4,6 +4,7 @@ ghost use Rattle.c_grammar.specs.Decls.{past_limit as line_past_limit};
 ghost use Rattle.c_parser.specs.Outcome.{line_within};
 ghost use Rattle.parse_file.specs.Views.{view_lines};
 
+use c_grammar::{MOST_FUNCTIONS, MOST_PARAMS, MOST_STMTS};
 use parse_file::Lines;
 use wp_base::Line;
 
@@ -11,10 +12,10 @@ use wp_base::Line;
 fn line_in(function: &Lines) -> Option<Line>
     ensures { result ≡ line_within (view_lines function.now) }
 {
-    if let Some(line) = function.params.get(32) {
+    if let Some(line) = function.params.get(MOST_PARAMS) {
         return Some(*line);
     }
-    match function.stmts.get(2000) {
+    match function.stmts.get(MOST_STMTS) {
         Some(line) => Some(*line),
         None => None,
     }
@@ -30,7 +31,7 @@ pub fn past_limit(functions: &[Lines]) -> Option<Line>
         let Some((function, after)) = rest.split_first() else {
             return None;
         };
-        if count >= 500 {
+        if count >= MOST_FUNCTIONS {
             return Some(function.first);
         }
         if let Some(line) = line_in(function) {

@@ -1,7 +1,7 @@
 -- Clauses by their sorts, in the words of the code.
-use Rattle.std.proofs.Common.{◌≡◌, ℕ, zero, suc, ◌+◌, ◌<◌, ◌≤◌, Bool, true, false, List, [], ◌∷◌, ◌++◌, length, map, Option, Some, None, option_map, refl, sym, ap, ◌∙◌, arith, append_assoc, append-nil}
+use Rattle.std.proofs.Common.{◌≡◌, ◌<◌, ◌≤◌, Bool, true, false, List, [], ◌∷◌, length, map, refl, arith, append_assoc, append-nil}
 use Rattle.std.specs.List.{list_all}
-use Rattle.c_grammar.specs.Annots.{Item, requires_item, ensures_item, assumes_item, invariant_item, assigns_item, loop_assigns_item, decreases_item, variant_item, is_at_most_one, assigns_or_none, first_of}
+use Rattle.c_grammar.specs.Annots.{Item, requires_item, ensures_item, assumes_item, invariant_item, assigns_item, loop_assigns_item, decreases_item, variant_item, is_at_most_one}
 use Rattle.parse_clauses.specs.declared.items.Part.{Part}
 use Rattle.parse_clauses.specs.declared.items.Item as C
 use Rattle.parse_clauses.specs.Views.{view_item}

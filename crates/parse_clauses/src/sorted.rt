@@ -2,7 +2,7 @@
 ghost use Rattle.std.specs.Prelude.{◌≡◌, [], ◌∷◌, map, IfOk, option_map, ◌&&◌};
 ghost use Rattle.std.specs.List.{list_all};
 ghost use Rattle.c_syntax.specs.View.{view_assigns, view_measure};
-ghost use Rattle.c_grammar.specs.Annots.{assigns_or_none, first_of, is_at_most_one, may_stand as may_stand_of};
+ghost use Rattle.c_grammar.specs.Annots.{assigns_or_none, first_of, is_at_most_one};
 ghost use Rattle.parse_clauses.specs.Sorts.{and_then, is_in as is_in_of, sorted_of};
 ghost use Rattle.parse_clauses.specs.Views.{view_item, view_sorted};
 

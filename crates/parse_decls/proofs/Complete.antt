@@ -13,12 +13,13 @@ use Rattle.c_grammar.specs.Exprs.{SpellsCond, SpellsExpr}
 use Rattle.c_grammar.specs.Declarators as g
 use Rattle.c_grammar.specs.Decls as d
 use Rattle.c_grammar.specs.Reading.{Reader, ◌>>=◌, punct_at, word_at, name_at, new_name_at}
+use Rattle.c_grammar.specs.ListReaders.{separated_at}
+use Rattle.c_grammar.proofs.Separating.{separated_complete}
+use Rattle.c_grammar.specs.Exactness.{Complete}
 use Rattle.parse_types.specs.Read.{type_at, stars_at, starts_type, ends_type, ends_stars}
 use Rattle.parse_types.proofs.Laws.{type_complete, stars_complete, type_starts}
-use Rattle.parse_decls.specs.Items.{items_at}
 use Rattle.parse_decls.specs.Read as r
 use Rattle.parse_decls.proofs.Parts.{Parts, ends_value}
-use Rattle.parse_decls.proofs.ItemLaws.{Reads, items_complete}
 
 -- ---- tokens
 
@@ -77,7 +78,7 @@ array_reads types cond' reads room base t first x line line' line'' inside n s n
     ap (λ ts. r.declarator_of types cond' (suc room) base ts) regrouped
     ∙ rw (stars_complete true first base t s (name x line ∷ after) (stars_end x line after), new_name_reads types x line after new, length_reads types cond' reads room inside n s' line'' rest) refl
 
-pub declarator_complete : (types : Names) (cond' : ℕ → Reader e.Expr) → CondReads types cond' → (room : ℕ) (base : e.CType) → Reads (g.SpellsDeclarator types room base) NoBracket (r.declarator_of types cond' room base)
+pub declarator_complete : (types : Names) (cond' : ℕ → Reader e.Expr) → CondReads types cond' → (room : ℕ) (base : e.CType) → Complete (g.SpellsDeclarator types room base) NoBracket (r.declarator_of types cond' room base)
 declarator_complete types cond' reads room base xs v (g.plain {line} {t} {x} {first} s new eq) rest none =
     ap (λ xs. r.declarator_of types cond' room base (xs ++ rest)) eq ∙ plain_reads types cond' room base t first x line s new rest none
 declarator_complete types cond' reads room base xs v (g.array {room = less} {line} line' line'' {t} {x} {first} {inside} {n} s new s' eq) rest none =
@@ -100,7 +101,7 @@ unfolding r.initialised_of
 given_reads types cond' expr' room base ts v line after a rest read value = rw (read, value) refl
 
 pub initialised_complete : (types : Names) (cond' expr' : ℕ → Reader e.Expr) → Parts types cond' expr' → (room : ℕ) (base : e.CType)
-    → Reads (g.SpellsInitialised types room base) EndsVariable (r.initialised_of types cond' expr' room base)
+    → Complete (g.SpellsInitialised types room base) EndsVariable (r.initialised_of types cond' expr' room base)
 initialised_complete types cond' expr' parts room base xs v (g.bare s) rest ends =
     bare_reads types cond' expr' room base (xs ++ rest) v rest (declarator_complete types cond' parts.cond_complete room base xs v s rest ends.0) ends.1
 initialised_complete types cond' expr' parts room base xs v (g.initialised line {first} {value} {v = u} {a} s s' eq is) rest ends =
@@ -121,8 +122,8 @@ pub variables_after_complete : (types : Names) (cond' expr' : ℕ → Reader e.E
     → r.variables_after_of types cond' expr' room base ((inside ++ punct p.Semicolon line ∷ []) ++ rest) ≡ Some (vs, rest)
 unfolding r.variables_after_of
 variables_after_complete types cond' expr' parts room base inside vs s line rest =
-    ended_reads (items_at (r.initialised_of types cond' expr' room base)) inside vs line rest
-    (items_complete (g.SpellsInitialised types room base) EndsVariable (r.initialised_of types cond' expr' room base) (initialised_complete types cond' expr' parts room base)
+    ended_reads (separated_at (r.initialised_of types cond' expr' room base)) inside vs line rest
+    (separated_complete (g.SpellsInitialised types room base) EndsVariable (r.initialised_of types cond' expr' room base) (initialised_complete types cond' expr' parts room base)
     (λ line ts. (refl, refl, refl)) inside vs s (punct p.Semicolon line ∷ rest) (refl, refl, refl) refl)
 
 pub declarator_ends_type : {types : Names} {room : ℕ} {base : e.CType} {xs : List Token} {v : e.VarDecl} → g.SpellsDeclarator types room base xs v → (rest : List Token) → ends_type (xs ++ rest) ≡ true

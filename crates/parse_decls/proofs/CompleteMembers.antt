@@ -20,13 +20,15 @@ use Rattle.c_grammar.specs.Exprs.{SpellsCond}
 use Rattle.c_grammar.specs.Declarators as g
 use Rattle.c_grammar.specs.Decls as d
 use Rattle.c_grammar.specs.Reading.{Reader, ◌>>=◌, punct_at, word_at, name_at, new_name_at}
+use Rattle.c_grammar.specs.ListReaders.{separated_at}
+use Rattle.c_grammar.proofs.SingleTokens.{first_line_front}
+use Rattle.c_grammar.proofs.Separating.{separated_complete}
+use Rattle.c_grammar.specs.Exactness.{Complete}
 use Rattle.parse_types.specs.Read.{type_at, stars_at, starts_type, kind_starts, ends_type, ends_stars}
 use Rattle.parse_types.proofs.Laws.{type_complete, stars_complete, type_starts}
-use Rattle.parse_decls.specs.Items.{items_at}
 use Rattle.parse_decls.specs.Read as r
 use Rattle.parse_decls.proofs.Parts.{Parts, ends_value}
-use Rattle.parse_decls.proofs.ItemLaws.{Reads, items_complete}
-use Rattle.parse_decls.proofs.SoundMembers.{Trailing, bare, comma, param_some, same_first_line}
+use Rattle.parse_decls.proofs.SoundMembers.{Trailing, bare, comma, param_some}
 use Rattle.parse_decls.proofs.Complete.{CondReads, NoBracket, new_name_reads, stars_end, type_end, stars_end_type, length_reads, declarator_complete, declarator_ends_type, ended_reads, items_begin}
 
 -- ---- first tokens
@@ -163,7 +165,7 @@ named_reads types cond' reads opens first {t} s (g.array {room} {line} line' lin
     ap (λ xs. r.param_of types cond' (suc room) (first ++ (xs ++ rest))) eq ∙ ap (λ ts. r.param_of types cond' (suc room) (first ++ ts)) regrouped
     ∙ param_head types cond' (suc room) first stars t t' x line s s' new (punct p.OpenBracket line' ∷ after) ∙ sized_reads types cond' reads opens room (x, line) t' inside n s'' line'' rest
 
-param_complete : (types : Names) (cond' : ℕ → Reader e.Expr) → CondReads types cond' → CondOpens types → (room : ℕ) → Reads (g.SpellsParam types room) NoBracket (r.param_of types cond' room)
+param_complete : (types : Names) (cond' : ℕ → Reader e.Expr) → CondReads types cond' → CondOpens types → (room : ℕ) → Complete (g.SpellsParam types room) NoBracket (r.param_of types cond' room)
 param_complete types cond' reads opens room xs v (g.declarator {first} {second} s s' eq) rest none =
     ap (λ xs. r.param_of types cond' room (xs ++ rest)) eq ∙ ap (r.param_of types cond' room) (append_assoc first second rest) ∙ named_reads types cond' reads opens first s s' rest none
 param_complete types cond' reads opens room xs v (g.unsized {room = less} {line} line' line'' {first} {second} {t} {t'} {x} s s' new eq) rest none =
@@ -180,10 +182,10 @@ line_reads : (types : Names) (cond' : ℕ → Reader e.Expr) (room : ℕ) (ts : 
 unfolding r.param_on_of
 line_reads types cond' room ts v rest read = rw read refl
 
-param_on_complete : (types : Names) (cond' : ℕ → Reader e.Expr) → CondReads types cond' → CondOpens types → (room : ℕ) → Reads (g.SpellsParamOn types room) NoBracket (r.param_on_of types cond' room)
+param_on_complete : (types : Names) (cond' : ℕ → Reader e.Expr) → CondReads types cond' → CondOpens types → (room : ℕ) → Complete (g.SpellsParamOn types room) NoBracket (r.param_on_of types cond' room)
 param_on_complete types cond' reads opens room xs v (g.on_line {all} {v = u} s) rest none =
     line_reads types cond' room (xs ++ rest) u rest (param_complete types cond' reads opens room xs u s rest none)
-    ∙ ap (λ line. Some (lined u line, rest)) (same_first_line xs rest (param_some s))
+    ∙ ap (λ line. Some (lined u line, rest)) (first_line_front xs rest (param_some s))
 
 param_on_starts : (types : Names) (room : ℕ) (xs : List Token) (v : e.VarDecl × ℕ) → g.SpellsParamOn types room xs v → (rest : List Token) → starts_type types (xs ++ rest) ≡ true
 param_on_starts types room xs v (g.on_line s) rest = param_starts s rest
@@ -211,7 +213,7 @@ unfolding r.params_of
 nothing_reads types cond' room rest close = rw close refl
 
 some_reads : (types : Names) (cond' : ℕ → Reader e.Expr) (room : ℕ) (ts : List Token) (vs : List (e.VarDecl × ℕ)) (rest : List Token) → r.at_close ts ≡ false → NotAlone ts
-    → items_at (r.param_on_of types cond' room) ts ≡ Some (vs, rest) → r.params_of types cond' room ts ≡ Some (vs, rest)
+    → separated_at (r.param_on_of types cond' room) ts ≡ Some (vs, rest) → r.params_of types cond' room ts ≡ Some (vs, rest)
 unfolding r.params_of
 some_reads types cond' room ts vs rest close alone read = rw (close, alone) read
 
@@ -224,12 +226,12 @@ params_complete types cond' reads opens room xs vs (d.params s) rest close =
     some_reads types cond' room (xs ++ rest) vs rest
     (type_no_close types (xs ++ rest) (items_begin (λ ts. starts_type types ts ≡ true) (param_on_starts types room) s rest))
     (items_begin NotAlone (param_on_not_alone types room) s rest)
-    (items_complete (g.SpellsParamOn types room) NoBracket (r.param_on_of types cond' room) (param_on_complete types cond' reads opens room) (λ line ts. refl) xs vs s rest stops.0 stops.1)
+    (separated_complete (g.SpellsParamOn types room) NoBracket (r.param_on_of types cond' room) (param_on_complete types cond' reads opens room) (λ line ts. refl) xs vs s rest stops.0 stops.1)
 
 -- ---- fields
 
 group_reads : (types : Names) (cond' : ℕ → Reader e.Expr) (room : ℕ) (ts : List Token) (t : e.CType) (after : List Token) (vs : List e.VarDecl) (rest : List Token) → type_at types ts ≡ Some (t, after)
-    → r.ended (items_at (r.declarator_of types cond' room t)) after ≡ Some (vs, rest) → r.group_of types cond' room ts ≡ Some (vs, rest)
+    → r.ended (separated_at (r.declarator_of types cond' room t)) after ≡ Some (vs, rest) → r.group_of types cond' room ts ≡ Some (vs, rest)
 unfolding r.group_of
 group_reads types cond' room ts t after vs rest read others = rw read others
 
@@ -241,10 +243,10 @@ group_complete types cond' reads room xs vs (d.group line {first} {second} {t} s
     let tail = second ++ semi ∷ [] in
     let ends : ends_type (tail ++ rest) ≡ true =
     subst (λ ts. ends_type ts ≡ true) (sym (append_assoc second (semi ∷ []) rest)) (items_begin (λ ts. ends_type ts ≡ true) (λ xs x s rest. declarator_ends_type s rest) s' (semi ∷ rest)) in
-    let items = items_complete (g.SpellsDeclarator types room t) NoBracket (r.declarator_of types cond' room t) (declarator_complete types cond' reads room t) (λ line ts. refl) second vs s' (semi ∷ rest) refl refl in
+    let items = separated_complete (g.SpellsDeclarator types room t) NoBracket (r.declarator_of types cond' room t) (declarator_complete types cond' reads room t) (λ line ts. refl) second vs s' (semi ∷ rest) refl refl in
     ap (λ xs. r.group_of types cond' room (xs ++ rest)) eq ∙ ap (r.group_of types cond' room) (append_assoc first tail rest)
     ∙ group_reads types cond' room (first ++ (tail ++ rest)) t (tail ++ rest) vs rest (type_complete types first t s (tail ++ rest) ends)
-    (ended_reads (items_at (r.declarator_of types cond' room t)) second vs line rest items)
+    (ended_reads (separated_at (r.declarator_of types cond' room t)) second vs line rest items)
 
 group_starts : {types : Names} {room : ℕ} {xs : List Token} {vs : List e.VarDecl} → d.SpellsGroup types room xs vs → (rest : List Token) → (starts_type types (xs ++ rest) ≡ true) × (1 ≤ length xs)
 group_starts {types} (d.group line {first} {second} {t} s s' eq) rest =
@@ -304,7 +306,7 @@ valued_reads : (types : Names) (cond' : ℕ → Reader e.Expr) (room : ℕ) (x :
 unfolding r.enumerator_of
 valued_reads types cond' room x line line' new after a rest read = rw (new_name_reads types x line (punct p.Assign line' ∷ after) new, read) refl
 
-enumerator_complete : (types : Names) (cond' : ℕ → Reader e.Expr) → CondReads types cond' → (room : ℕ) → Reads (d.SpellsEnumerator types room) EndsEnumerator (r.enumerator_of types cond' room)
+enumerator_complete : (types : Names) (cond' : ℕ → Reader e.Expr) → CondReads types cond' → (room : ℕ) → Complete (d.SpellsEnumerator types room) EndsEnumerator (r.enumerator_of types cond' room)
 enumerator_complete types cond' reads room xs v (d.counted {line} {x} new) rest ends = counted_reads types cond' room x line new rest ends.0
 enumerator_complete types cond' reads room xs v (d.valued {line} line' {x} {value} {a} new s eq is) rest ends =
     ap (λ xs. r.enumerator_of types cond' room (xs ++ rest)) eq
@@ -340,7 +342,7 @@ more_read : (item : Reader e.VarDecl) (turns : ℕ) (ts : List Token) (v : e.Var
 unfolding r.more_enumerators
 more_read item turns ts v line after vs rest read close others = rw (read, close, others) refl
 
-enumerators_read : (types : Names) (room : ℕ) (item : Reader e.VarDecl) → Reads (d.SpellsEnumerator types room) EndsEnumerator item → (end : List Token) → Trailing end → (line : ℕ)
+enumerators_read : (types : Names) (room : ℕ) (item : Reader e.VarDecl) → Complete (d.SpellsEnumerator types room) EndsEnumerator item → (end : List Token) → Trailing end → (line : ℕ)
     → {all : List Token} {vs : List e.VarDecl} → Separated (d.SpellsEnumerator types room) all vs → (rest : List Token) → (turns : ℕ) → length vs ≤ turns
     → some_of item turns (all ++ (end ++ punct p.CloseBrace line ∷ rest)) ≡ Some (vs, punct p.CloseBrace line ∷ rest)
 enumerators_read types room item reads end trails line (Separated.one s) rest zero le = absurd (omega arith)
@@ -359,7 +361,7 @@ separated_length : {X : Type 0} {Item : List Token → X → Type 0} {all : List
 separated_length (Separated.one s) = omega arith
 separated_length (Separated.more line {first} {rest} s others eq) = omega (arith, separated_length others, ap length eq, length-append first (punct p.Comma line ∷ rest))
 
-some_read : (types : Names) (room : ℕ) (item : Reader e.VarDecl) → Reads (d.SpellsEnumerator types room) EndsEnumerator item → (end : List Token) → Trailing end → (line : ℕ)
+some_read : (types : Names) (room : ℕ) (item : Reader e.VarDecl) → Complete (d.SpellsEnumerator types room) EndsEnumerator item → (end : List Token) → Trailing end → (line : ℕ)
     → (all : List Token) (vs : List e.VarDecl) → Separated (d.SpellsEnumerator types room) all vs → (rest : List Token)
     → r.some_enumerators item (all ++ (end ++ punct p.CloseBrace line ∷ rest)) ≡ Some (vs, punct p.CloseBrace line ∷ rest)
 some_read types room item reads end trails line all vs (Separated.one {x} s) rest =

@@ -1,5 +1,4 @@
 pub mod Reading
-pub mod ItemLaws
 pub mod Parts
 pub mod Sound
 pub mod Complete

@@ -12,59 +12,13 @@ use Rattle.c_grammar.specs.Reading.{Reader, ◌>>=◌, punct_at}
 use Rattle.c_grammar.specs.Views.{Gives}
 use Rattle.c_grammar.specs.Tokens.{Names}
 use Rattle.c_grammar.proofs.Readers.{pair_is, got}
+use Rattle.c_grammar.specs.ListReaders.{with_items, more_separated, separated_at}
+use Rattle.c_grammar.proofs.Turns.{with_one}
 use Rattle.parse_types.specs.Read.{type_at}
 use Rattle.parse_exprs.specs.Read.{cond_at}
 use Rattle.parse_decls.specs.Read as r
-use Rattle.parse_decls.specs.Items.{items_go, more_items, items_at, with_items}
 
 pub ruleset views = (eq.view_ctype-Array, eq.view_ctype-Pointer, eq.view_ctype-Kind)
-
--- ---- items between commas
-
-pub items_end : {X : Type 0} (item : Reader X) (turns : ℕ) (xs : List X) (ts : List Token) → turns ≡ 0 → with_items xs (more_items item turns ts) ≡ Some (xs, ts)
-unfolding more_items
-items_end item zero xs ts none = rw append-nil refl
-items_end item (suc turns) xs ts none = absurd (omega arith)
-
-pub items_stop : {X : Type 0} (item : Reader X) (turns : ℕ) (xs : List X) (ts : List Token) → punct_at p.Comma ts ≡ None → with_items xs (more_items item turns ts) ≡ Some (xs, ts)
-unfolding more_items
-items_stop item zero xs ts h = rw append-nil refl
-items_stop item (suc turns) xs ts h = rw (h, append-nil) refl
-
-with_one : {X : Type 0} (xs : List X) (x : X) (given : Option (List X × List Token)) → with_items (xs ++ x ∷ []) given ≡ with_items xs (given >>= λ ys. Some (x ∷ ys.0, ys.1))
-with_one xs x None = refl
-with_one xs x (Some ys) = rw append_assoc refl
-
-pub items_turn : {X : Type 0} (item : Reader X) (turns turns' : ℕ) (xs : List X) (x : X) (ts : List Token) (line : ℕ) (after rest : List Token) → turns ≡ turns' + 1
-    → punct_at p.Comma ts ≡ Some (line, after) → item after ≡ Some (x, rest) → with_items (xs ++ x ∷ []) (more_items item turns' rest) ≡ with_items xs (more_items item turns ts)
-unfolding more_items
-items_turn item turns turns' xs x ts line after rest more comma read =
-    let m : turns ≡ suc turns' = omega arith in
-    rw (m, comma, read) (with_one xs x (more_items item turns' rest))
-
-pub items_fault : {X Y : Type 0} (see : X → Y) (item : Reader Y) (turns turns' : ℕ) (xs : List Y) (ts : List Token) (line : ℕ) (after : List Token) (e : Fault) → turns ≡ turns' + 1
-    → punct_at p.Comma ts ≡ Some (line, after) → Gives see (Err e) (item after) → Gives (map see) (Err e) (with_items xs (more_items item turns ts))
-unfolding more_items
-items_fault see item turns turns' xs ts line after Syntax more comma read =
-    let m : turns ≡ suc turns' = omega arith in
-    rw (m, comma, read) refl
-items_fault see item turns turns' xs ts line after NoMemory more comma read = tt
-
--- one more item, put at the end
-pub items_next : {X Y : Type 0} (see : X → Y) (item : Reader Y) (turns turns' : ℕ) (xs more : List X) (x : X) (ts : List Token) (line : ℕ) (after rest : List Token) → turns ≡ turns' + 1
-    → punct_at p.Comma ts ≡ Some (line, after) → item after ≡ Some (see x, rest) → more ≡ xs ++ x ∷ []
-    → with_items (map see more) (more_items item turns' rest) ≡ with_items (map see xs) (more_items item turns ts)
-items_next see item turns turns' xs more x ts line after rest n comma read put =
-    ap (λ more. with_items (map see more) (more_items item turns' rest)) put
-    ∙ ap (λ ys. with_items ys (more_items item turns' rest)) (map-append see xs (x ∷ []))
-    ∙ items_turn item turns turns' (map see xs) (see x) ts line after rest n comma read
-
--- the first item, put at the end
-pub items_first : {X Y : Type 0} (see : X → Y) (item : Reader Y) (xs more : List X) (x : X) (ts rest : List Token) → item ts ≡ Some (see x, rest) → more ≡ xs ++ x ∷ []
-    → with_items (map see xs) (items_at item ts) ≡ with_items (map see more) (more_items item (length rest) rest)
-unfolding items_at
-items_first see item xs more x ts rest read put =
-    rw (put, map-append, read) (sym (with_one (map see xs) (see x) (more_items item (length rest) rest)))
 
 -- ---- behind those so far
 
@@ -85,24 +39,24 @@ with_ended : {X : Type 0} (xs : List X) (g : Option (List X × List Token)) (end
 with_ended xs None end = refl
 with_ended xs (Some ys) end = elim (end ys.1) as (λ o. with_items xs (o >>= λ s. Some (ys.0, s.1)) ≡ (o >>= λ s. Some (xs ++ ys.0, s.1))) [ None ↦ refl | Some s ↦ refl ]
 
-pub items_are : {X : Type 0} (item : Reader X) (xs : List X) (ts : List Token) → with_items xs (items_at item ts) ≡ (item ts >>= λ x. with_items (xs ++ x.0 ∷ []) (more_items item (length x.1) x.1))
-unfolding items_at
+pub items_are : {X : Type 0} (item : Reader X) (xs : List X) (ts : List Token) → with_items xs (separated_at item ts) ≡ (item ts >>= λ x. with_items (xs ++ x.0 ∷ []) (more_separated item (length x.1) x.1))
+unfolding separated_at
 items_are item xs ts =
-    with_bind xs (item ts) (λ x. more_items item (length x.1) x.1 >>= λ xs. Some (x.0 ∷ xs.0, xs.1))
-    ∙ elim (item ts) as (λ o. (o >>= λ x. with_items xs (more_items item (length x.1) x.1 >>= λ xs. Some (x.0 ∷ xs.0, xs.1))) ≡ (o >>= λ x. with_items (xs ++ x.0 ∷ []) (more_items item (length x.1) x.1))) [
+    with_bind xs (item ts) (λ x. more_separated item (length x.1) x.1 >>= λ xs. Some (x.0 ∷ xs.0, xs.1))
+    ∙ elim (item ts) as (λ o. (o >>= λ x. with_items xs (more_separated item (length x.1) x.1 >>= λ xs. Some (x.0 ∷ xs.0, xs.1))) ≡ (o >>= λ x. with_items (xs ++ x.0 ∷ []) (more_separated item (length x.1) x.1))) [
       | None ↦ refl
-      | Some x ↦ sym (with_one xs x.0 (more_items item (length x.1) x.1))
+      | Some x ↦ sym (with_one xs x.0 (more_separated item (length x.1) x.1))
     ]
 
 pub group_is : (types : Names) (room : ℕ) (xs : List e.VarDecl) (ts : List Token) → with_items xs (r.group_of types (cond_at types) room ts)
-    ≡ (type_at types ts >>= λ t. with_items xs (items_at (r.declarator_at types room t.0) t.1) >>= λ vs. punct_at p.Semicolon vs.1 >>= λ s. Some (vs.0, s.1))
+    ≡ (type_at types ts >>= λ t. with_items xs (separated_at (r.declarator_at types room t.0) t.1) >>= λ vs. punct_at p.Semicolon vs.1 >>= λ s. Some (vs.0, s.1))
 unfolding r.group_of r.declarator_at
 group_is types room xs ts =
-    with_bind xs (type_at types ts) (λ t. r.ended (items_at (r.declarator_of types (cond_at types) room t.0)) t.1)
-    ∙ elim (type_at types ts) as (λ o. (o >>= λ t. with_items xs (r.ended (items_at (r.declarator_of types (cond_at types) room t.0)) t.1))
-    ≡ (o >>= λ t. with_items xs (items_at (r.declarator_of types (cond_at types) room t.0) t.1) >>= λ vs. punct_at p.Semicolon vs.1 >>= λ s. Some (vs.0, s.1))) [
+    with_bind xs (type_at types ts) (λ t. r.ended (separated_at (r.declarator_of types (cond_at types) room t.0)) t.1)
+    ∙ elim (type_at types ts) as (λ o. (o >>= λ t. with_items xs (r.ended (separated_at (r.declarator_of types (cond_at types) room t.0)) t.1))
+    ≡ (o >>= λ t. with_items xs (separated_at (r.declarator_of types (cond_at types) room t.0) t.1) >>= λ vs. punct_at p.Semicolon vs.1 >>= λ s. Some (vs.0, s.1))) [
       | None ↦ refl
-      | Some t ↦ with_ended xs (items_at (r.declarator_of types (cond_at types) room t.0) t.1) (punct_at p.Semicolon)
+      | Some t ↦ with_ended xs (separated_at (r.declarator_of types (cond_at types) room t.0) t.1) (punct_at p.Semicolon)
     ]
 
 -- ---- groups of fields
@@ -187,7 +141,3 @@ enumerators_fault see item turns turns' xs ts line after Syntax n comma close re
     let m : turns ≡ suc turns' = omega arith in
     rw (m, comma, close, read) refl
 enumerators_fault see item turns turns' xs ts line after NoMemory n comma close read = tt
-
-pub one_more : {X : Type 0} (x : X) (given : Option (List X × List Token)) → with_items (x ∷ []) given ≡ (given >>= λ xs. Some (x ∷ xs.0, xs.1))
-one_more x None = refl
-one_more x (Some xs) = refl

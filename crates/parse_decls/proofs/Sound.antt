@@ -14,14 +14,14 @@ use Rattle.c_grammar.specs.Declarators as g
 use Rattle.c_grammar.specs.Decls as d
 use Rattle.c_grammar.specs.Reading.{Reader, ◌>>=◌, punct_at, word_at, name_at, new_name_at}
 use Rattle.c_grammar.proofs.Readers.{Took, Sound, bind_ok, guard_ok, pair_is, got}
+use Rattle.c_grammar.specs.ListReaders.{separated_at}
+use Rattle.c_grammar.proofs.SingleTokens.{punct_is, new_name_is}
+use Rattle.c_grammar.proofs.Separating.{separated_sound}
 use Rattle.parse_types.specs.Read.{type_at, stars_at}
-use Rattle.parse_types.proofs.Tokens.{punct_is, word_is, name_is, new_name_is}
 use Rattle.parse_types.proofs.Laws.{type_sound, stars_sound}
 use Rattle.parse_decls.specs.Spelled.{SpellsEnded}
-use Rattle.parse_decls.specs.Items.{items_at}
 use Rattle.parse_decls.specs.Read as r
 use Rattle.parse_decls.proofs.Parts.{Parts}
-use Rattle.parse_decls.proofs.ItemLaws.{items_sound}
 
 -- ---- declarators
 
@@ -160,8 +160,8 @@ pub variables_after_sound : (types : Names) (cond' expr' : ℕ → Reader e.Expr
     → Sound (SpellsEnded (Separated (g.SpellsInitialised types room base))) (r.variables_after_of types cond' expr' room base)
 unfolding r.variables_after_of
 variables_after_sound types cond' expr' parts room base =
-    ended_sound (Separated (g.SpellsInitialised types room base)) (items_at (r.initialised_of types cond' expr' room base))
-    (items_sound (g.SpellsInitialised types room base) (r.initialised_of types cond' expr' room base) (initialised_sound types cond' expr' parts room base))
+    ended_sound (Separated (g.SpellsInitialised types room base)) (separated_at (r.initialised_of types cond' expr' room base))
+    (separated_sound (g.SpellsInitialised types room base) (r.initialised_of types cond' expr' room base) (initialised_sound types cond' expr' parts room base))
 
 pub variables_sound : (types : Names) (cond' expr' : ℕ → Reader e.Expr) → Parts types cond' expr' → (room : ℕ) → Sound (g.SpellsVariables types room) (r.variables_of types cond' expr' room)
 unfolding r.variables_of

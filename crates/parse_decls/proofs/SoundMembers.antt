@@ -15,12 +15,12 @@ use Rattle.c_grammar.specs.Declarators as g
 use Rattle.c_grammar.specs.Decls as d
 use Rattle.c_grammar.specs.Reading.{Reader, ◌>>=◌, punct_at, word_at, name_at, new_name_at}
 use Rattle.c_grammar.proofs.Readers.{Took, Sound, bind_ok, guard_ok, pair_is, got}
+use Rattle.c_grammar.specs.ListReaders.{separated_at}
+use Rattle.c_grammar.proofs.SingleTokens.{punct_is, word_is, new_name_is, first_line_front}
+use Rattle.c_grammar.proofs.Separating.{separated_sound}
 use Rattle.parse_types.specs.Read.{type_at, stars_at}
-use Rattle.parse_types.proofs.Tokens.{punct_is, word_is, new_name_is}
 use Rattle.parse_types.proofs.Laws.{type_sound, stars_sound}
-use Rattle.parse_decls.specs.Items.{items_at}
 use Rattle.parse_decls.specs.Read as r
-use Rattle.parse_decls.proofs.ItemLaws.{items_sound}
 use Rattle.parse_decls.proofs.Sound.{roomy, LengthAt, length_is, NameAt, name_at_is, plain_is, array_is, initial_sound, ended_sound, declarator_sound}
 
 abbrev CondSound : Names → (ℕ → Reader e.Expr) → Type 0
@@ -96,11 +96,6 @@ param_some (g.unsized {line} line' line'' {first} {second} {x} s s' new eq) =
     let tail = name x line ∷ punct p.OpenBracket line' ∷ punct p.CloseBracket line'' ∷ [] in
     omega (arith, ap length eq, length-append first (second ++ tail), length-append second tail)
 
--- the line of the first token, whatever comes behind
-pub same_first_line : (xs rest : List Token) → 1 ≤ length xs → first_line (xs ++ rest) ≡ first_line xs
-same_first_line [] rest h = absurd (omega arith)
-same_first_line (x ∷ xs) rest h = refl
-
 abbrev lined : e.VarDecl → ℕ → e.VarDecl × ℕ
 lined v line = (v, line)
 
@@ -110,7 +105,7 @@ param_on_sound types cond' sound room ts v rest h =
     let x = bind_ok (r.param_of types cond' room ts) (λ v. Some (lined v.0 (first_line ts), v.1)) (v, rest) h in
     let same = pair_is (lined x.0.0 (first_line ts)) v x.0.1 rest x.2 in
     let took = param_sound types cond' sound room ts x.0.0 x.0.1 x.1 in
-    let on : first_line took.0 ≡ first_line ts = sym (ap first_line took.1 ∙ same_first_line took.0 x.0.1 (param_some took.2)) in
+    let on : first_line took.0 ≡ first_line ts = sym (ap first_line took.1 ∙ first_line_front took.0 x.0.1 (param_some took.2)) in
     (took.0, took.1 ∙ ap (λ l. took.0 ++ l) same.1, subst (g.SpellsParamOn types room took.0) (ap (lined x.0.0) on ∙ same.0) (g.on_line took.2))
 
 abbrev Params : Type 0
@@ -137,13 +132,13 @@ some_params_sound types room items sound ts vs rest h =
 pub params_sound : (types : Names) (cond' : ℕ → Reader e.Expr) → CondSound types cond' → (room : ℕ) → Sound (d.SpellsParams types room) (r.params_of types cond' room)
 unfolding r.params_of
 params_sound types cond' sound room ts vs rest h =
-    let items = items_at (r.param_on_of types cond' room) in
+    let items = separated_at (r.param_on_of types cond' room) in
     elim (r.at_close ts) as (λ b. cond b (Some ([], ts)) (r.some_params (r.no_params (word_at w.Void ts)) items ts) ≡ Some (vs, rest) → Took (d.SpellsParams types room) ts vs rest) [
       | true ↦ (λ h.
           let no_items : Params = [] in
           let same = pair_is no_items vs ts rest h in
           ([], same.1, subst (d.SpellsParams types room []) same.0 d.nothing))
-      | false ↦ (λ h. some_params_sound types room items (items_sound (g.SpellsParamOn types room) (r.param_on_of types cond' room) (param_on_sound types cond' sound room)) ts vs rest h)
+      | false ↦ (λ h. some_params_sound types room items (separated_sound (g.SpellsParamOn types room) (r.param_on_of types cond' room) (param_on_sound types cond' sound room)) ts vs rest h)
     ]
     h
 
@@ -152,10 +147,10 @@ params_sound types cond' sound room ts vs rest h =
 pub group_sound : (types : Names) (cond' : ℕ → Reader e.Expr) → CondSound types cond' → (room : ℕ) → Sound (d.SpellsGroup types room) (r.group_of types cond' room)
 unfolding r.group_of
 group_sound types cond' sound room ts vs rest h =
-    let t = bind_ok (type_at types ts) (λ t. r.ended (items_at (r.declarator_of types cond' room t.0)) t.1) (vs, rest) h in
+    let t = bind_ok (type_at types ts) (λ t. r.ended (separated_at (r.declarator_of types cond' room t.0)) t.1) (vs, rest) h in
     let first = type_sound types ts t.0.0 t.0.1 t.1 in
     let item = r.declarator_of types cond' room t.0.0 in
-    let second = ended_sound (Separated (g.SpellsDeclarator types room t.0.0)) (items_at item) (items_sound (g.SpellsDeclarator types room t.0.0) item (declarator_sound types cond' sound room t.0.0)) t.0.1 vs rest t.2 in
+    let second = ended_sound (Separated (g.SpellsDeclarator types room t.0.0)) (separated_at item) (separated_sound (g.SpellsDeclarator types room t.0.0) item (declarator_sound types cond' sound room t.0.0)) t.0.1 vs rest t.2 in
     let end = second.2 in (
       first.0 ++ second.0,
       first.1 ∙ ap (λ l. first.0 ++ l) second.1 ∙ sym (append_assoc first.0 second.0 rest),

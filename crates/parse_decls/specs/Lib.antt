@@ -1,4 +1,4 @@
-pub mod Items
 pub mod Read
 pub mod Views
 pub mod Spelled
+pub mod Exactness

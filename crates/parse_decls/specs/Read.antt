@@ -10,9 +10,9 @@ use Rattle.c_syntax.specs.Expr as e
 use Rattle.c_grammar.specs.Tokens.{Names, first_line}
 use Rattle.c_grammar.specs.Declarators.{declared, with_init}
 use Rattle.c_grammar.specs.Reading.{Reader, ◌>>=◌, punct_at, word_at, name_at, new_name_at}
+use Rattle.c_grammar.specs.ListReaders.{separated_at}
 use Rattle.parse_types.specs.Read.{type_at, stars_at}
 use Rattle.parse_exprs.specs.Read.{cond_at, expr_at}
-use Rattle.parse_decls.specs.Items.{items_at}
 
 -- ---- declarators (C11 6.7.6), over readers of conditionals and expressions
 
@@ -43,7 +43,7 @@ abbrev pub ended : {X : Type 0} → Reader (List X) → Reader (List X)
 ended items ts = items ts >>= λ xs. punct_at p.Semicolon xs.1 >>= λ s. Some (xs.0, s.1)
 
 unfoldable pub variables_after_of : Names → (cond expr : ℕ → Reader e.Expr) → (room : ℕ) → e.CType → Reader (List e.VarDecl)
-variables_after_of types cond expr room base ts = ended (items_at (initialised_of types cond expr room base)) ts
+variables_after_of types cond expr room base ts = ended (separated_at (initialised_of types cond expr room base)) ts
 
 -- type initialised {"," initialised} ";"
 unfoldable pub variables_of : Names → (cond expr : ℕ → Reader e.Expr) → (room : ℕ) → Reader (List e.VarDecl)
@@ -95,13 +95,13 @@ some_params None params ts = params ts
 unfoldable pub params_of : Names → (cond : ℕ → Reader e.Expr) → (room : ℕ) → Reader (List (e.VarDecl × ℕ))
 params_of types cond room ts =
     if at_close ts then Some ([], ts)
-    else some_params (no_params (word_at w.Void ts)) (items_at (param_on_of types cond room)) ts
+    else some_params (no_params (word_at w.Void ts)) (separated_at (param_on_of types cond room)) ts
 
 -- ---- structs and enums (C11 6.7.2.1, 6.7.2.2)
 
 -- type declarator {"," declarator} ";"
 unfoldable pub group_of : Names → (cond : ℕ → Reader e.Expr) → (room : ℕ) → Reader (List e.VarDecl)
-group_of types cond room ts = type_at types ts >>= λ t. ended (items_at (declarator_of types cond room t.0)) t.1
+group_of types cond room ts = type_at types ts >>= λ t. ended (separated_at (declarator_of types cond room t.0)) t.1
 
 abbrev pub groups_go : (end : Bool) → List e.VarDecl → List Token → Reader (List e.VarDecl) → Option (List e.VarDecl × List Token)
 groups_go true vs ts go = Some (vs, ts)

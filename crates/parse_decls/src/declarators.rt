@@ -4,11 +4,11 @@ ghost use Rattle.c_syntax.specs.View.{view_ctype, view_expr, view_var};
 ghost use Rattle.c_syntax.specs.Expr as e;
 ghost use Rattle.c_grammar.specs.Declarators.{declared as declared_as, with_init as var_with_init};
 ghost use Rattle.c_grammar.specs.Views.{Gives};
+ghost use Rattle.c_grammar.specs.ListReaders.{with_items, more_separated, separated_at};
 ghost use Rattle.parse_exprs.specs.Read.{cond_at, expr_at};
-ghost use Rattle.parse_decls.specs.Items.{more_items, with_items, items_at};
 ghost use Rattle.parse_decls.specs.Read as spec;
 
-use c_grammar::{Fault, expect, new_name_at, punct_at};
+use c_grammar::{Fault, Read, expect, new_name_at, punct_at};
 use c_syntax::{CType, Expr, Punct, Token, VarDecl};
 use parse_exprs::{cond_at, expr_at};
 use parse_types::{stars_at, type_at};
@@ -50,13 +50,7 @@ pub fn array(alloc: Global, of: CType, length: Expr) -> Result<CType, NoMemory>
 
 /// What stands behind an opening bracket, up to the one that closes it.
 #[tactic(auto, unfolding(crate::specs::Read::length_of))]
-pub fn length_at<'a>(
-    alloc: Global,
-    types: &[Str],
-    room: u32,
-    tokens: &'a [Token],
-) -> Result<(Expr, &'a [Token]), Fault>
-    requires { room ≤ 200 }
+pub fn length_at<'a>(alloc: Global, types: &[Str], room: u32, tokens: &'a [Token]) -> Read<'a, Expr>
     ensures { Gives view_expr result (spec.length_of (cond_at types.now) room tokens.now) }
 {
     if room == 0 {
@@ -69,14 +63,13 @@ pub fn length_at<'a>(
 
 /// A declarator, from the type that the specifiers give.
 #[tactic(auto, unfolding(crate::specs::Read::declarator_at, crate::specs::Read::declarator_of))]
-pub fn read_declarator<'a>(
+pub fn declarator_at<'a>(
     alloc: Global,
     types: &[Str],
     room: u32,
     base: CType,
     tokens: &'a [Token],
-) -> Result<(VarDecl, &'a [Token]), Fault>
-    requires { room ≤ 200 }
+) -> Read<'a, VarDecl>
     ensures { Gives view_var result (spec.declarator_at types.now room (view_ctype base) tokens.now) }
 {
     let (ty, rest) = stars_at(alloc, true, base, tokens)?;
@@ -96,12 +89,11 @@ pub fn another_declarator<'a>(
     room: u32,
     base: &CType,
     tokens: &'a [Token],
-) -> Result<(VarDecl, &'a [Token]), Fault>
-    requires { room ≤ 200 }
+) -> Read<'a, VarDecl>
     ensures { Gives view_var result (spec.declarator_at types.now room (view_ctype base.now) tokens.now) }
 {
     let copy = base.copy(alloc)?;
-    read_declarator(alloc, types, room, copy, tokens)
+    declarator_at(alloc, types, room, copy, tokens)
 }
 
 // A declarator, with a value if one is given.
@@ -112,8 +104,7 @@ fn initialised_at<'a>(
     room: u32,
     base: &CType,
     tokens: &'a [Token],
-) -> Result<(VarDecl, &'a [Token]), Fault>
-    requires { room ≤ 200 }
+) -> Read<'a, VarDecl>
     ensures { Gives view_var result (spec.initialised_of types.now (cond_at types.now) (expr_at types.now) room (view_ctype base.now) tokens.now) }
 {
     let (var, rest) = another_declarator(alloc, types, room, base, tokens)?;
@@ -132,9 +123,8 @@ fn more_variables<'a>(
     base: &CType,
     first: List<VarDecl>,
     tokens: &'a [Token],
-) -> Result<(List<VarDecl>, &'a [Token]), Fault>
-    requires { room ≤ 200 }
-    ensures { Gives (map view_var) result (with_items (map view_var first) (more_items (spec.initialised_of types.now (cond_at types.now) (expr_at types.now) room (view_ctype base.now)) (length tokens.now) tokens.now)) }
+) -> Read<'a, List<VarDecl>>
+    ensures { Gives (map view_var) result (with_items (map view_var first) (more_separated (spec.initialised_of types.now (cond_at types.now) (expr_at types.now) room (view_ctype base.now)) (length tokens.now) tokens.now)) }
 {
     let mut vars = first;
     let mut rest = tokens;
@@ -150,16 +140,15 @@ fn more_variables<'a>(
 }
 
 // Variables between commas.
-#[tactic(auto, using(crate::proofs::Reading::one_more), unfolding(crate::specs::Items::items_at))]
+#[tactic(auto, using(c_grammar::proofs::Turns::one_more), unfolding(c_grammar::specs::ListReaders::separated_at))]
 fn some_variables<'a>(
     alloc: Global,
     types: &[Str],
     room: u32,
     base: &CType,
     tokens: &'a [Token],
-) -> Result<(List<VarDecl>, &'a [Token]), Fault>
-    requires { room ≤ 200 }
-    ensures { Gives (map view_var) result (items_at (spec.initialised_of types.now (cond_at types.now) (expr_at types.now) room (view_ctype base.now)) tokens.now) }
+) -> Read<'a, List<VarDecl>>
+    ensures { Gives (map view_var) result (separated_at (spec.initialised_of types.now (cond_at types.now) (expr_at types.now) room (view_ctype base.now)) tokens.now) }
 {
     let (var, rest) = initialised_at(alloc, types, room, base, tokens)?;
     let mut vars = List::new(alloc);
@@ -169,14 +158,13 @@ fn some_variables<'a>(
 
 /// The variables behind a type, and their semicolon.
 #[tactic(auto, unfolding(crate::specs::Read::variables_after, crate::specs::Read::variables_after_of))]
-pub fn read_variables_after<'a>(
+pub fn variables_after<'a>(
     alloc: Global,
     types: &[Str],
     room: u32,
     base: &CType,
     tokens: &'a [Token],
-) -> Result<(List<VarDecl>, &'a [Token]), Fault>
-    requires { room ≤ 200 }
+) -> Read<'a, List<VarDecl>>
     ensures { Gives (map view_var) result (spec.variables_after types.now room (view_ctype base.now) tokens.now) }
 {
     let (vars, rest) = some_variables(alloc, types, room, base, tokens)?;
@@ -186,15 +174,14 @@ pub fn read_variables_after<'a>(
 
 /// A type, variables of it, and their semicolon.
 #[tactic(auto, unfolding(crate::specs::Read::variables_after, crate::specs::Read::variables_at, crate::specs::Read::variables_of))]
-pub fn read_variables<'a>(
+pub fn variables_at<'a>(
     alloc: Global,
     types: &[Str],
     room: u32,
     tokens: &'a [Token],
-) -> Result<(List<VarDecl>, &'a [Token]), Fault>
-    requires { room ≤ 200 }
+) -> Read<'a, List<VarDecl>>
     ensures { Gives (map view_var) result (spec.variables_at types.now room tokens.now) }
 {
     let (base, rest) = type_at(alloc, types, tokens)?;
-    read_variables_after(alloc, types, room, &base, rest)
+    variables_after(alloc, types, room, &base, rest)
 }

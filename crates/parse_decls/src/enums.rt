@@ -2,13 +2,13 @@
 ghost use Rattle.std.specs.Prelude.{◌≡◌, ◌≤◌, ◌-◌, map, length};
 ghost use Rattle.c_syntax.specs.View.{view_ctype, view_var};
 ghost use Rattle.c_grammar.specs.Views.{Gives};
+ghost use Rattle.c_grammar.specs.ListReaders.{with_items};
 ghost use Rattle.parse_exprs.specs.Read.{cond_at};
-ghost use Rattle.parse_decls.specs.Items.{with_items};
 ghost use Rattle.parse_decls.specs.Read as spec;
 
 use crate::declarators::{declared, with_init};
 use crate::fields::at_brace;
-use c_grammar::{Fault, expect, new_name_at, punct_at};
+use c_grammar::{Fault, Read, expect, new_name_at, punct_at};
 use c_syntax::{CType, Punct, Token, VarDecl};
 use parse_exprs::cond_at;
 use std::alloc::Global;
@@ -21,8 +21,7 @@ fn enumerator_at<'a>(
     types: &[Str],
     room: u32,
     tokens: &'a [Token],
-) -> Result<(VarDecl, &'a [Token]), Fault>
-    requires { room ≤ 200 }
+) -> Read<'a, VarDecl>
     ensures { Gives view_var result (spec.enumerator_of types.now (cond_at types.now) room tokens.now) }
 {
     let ((name, line), rest) = new_name_at(alloc, types, tokens)?;
@@ -41,8 +40,7 @@ fn more_enumerators<'a>(
     room: u32,
     first: List<VarDecl>,
     tokens: &'a [Token],
-) -> Result<(List<VarDecl>, &'a [Token]), Fault>
-    requires { room ≤ 200 }
+) -> Read<'a, List<VarDecl>>
     ensures { Gives (map view_var) result (with_items (map view_var first) (spec.more_enumerators (spec.enumerator_of types.now (cond_at types.now) room) (length tokens.now) tokens.now)) }
 {
     let mut items = first;
@@ -62,14 +60,13 @@ fn more_enumerators<'a>(
 }
 
 // Enumerators, with a comma behind the last or without.
-#[tactic(auto, using(crate::proofs::Reading::one_more))]
+#[tactic(auto, using(c_grammar::proofs::Turns::one_more))]
 fn some_enumerators<'a>(
     alloc: Global,
     types: &[Str],
     room: u32,
     tokens: &'a [Token],
-) -> Result<(List<VarDecl>, &'a [Token]), Fault>
-    requires { room ≤ 200 }
+) -> Read<'a, List<VarDecl>>
     ensures { Gives (map view_var) result (spec.some_enumerators (spec.enumerator_of types.now (cond_at types.now) room) tokens.now) }
 {
     let (item, rest) = enumerator_at(alloc, types, room, tokens)?;
@@ -80,13 +77,12 @@ fn some_enumerators<'a>(
 
 /// The enumerators of an `enum` between braces, and the semicolon behind them.
 #[tactic(auto, unfolding(crate::specs::Read::enumerators_at, crate::specs::Read::enumerators_of, crate::specs::Read::enumerated))]
-pub fn read_enumerators<'a>(
+pub fn enumerators_at<'a>(
     alloc: Global,
     types: &[Str],
     room: u32,
     tokens: &'a [Token],
-) -> Result<(List<VarDecl>, &'a [Token]), Fault>
-    requires { room ≤ 200 }
+) -> Read<'a, List<VarDecl>>
     ensures { Gives (map view_var) result (spec.enumerators_at types.now room tokens.now) }
 {
     let (_, rest) = expect(Punct::OpenBrace, tokens)?;

@@ -2,12 +2,12 @@
 ghost use Rattle.std.specs.Prelude.{◌≡◌, ◌≤◌, ◌-◌, map, length};
 ghost use Rattle.c_syntax.specs.View.{view_ctype, view_var};
 ghost use Rattle.c_grammar.specs.Views.{Gives};
+ghost use Rattle.c_grammar.specs.ListReaders.{with_items, more_separated, separated_at};
 ghost use Rattle.parse_exprs.specs.Read.{cond_at};
-ghost use Rattle.parse_decls.specs.Items.{more_items, with_items, items_at};
 ghost use Rattle.parse_decls.specs.Read as spec;
 
 use crate::declarators::another_declarator;
-use c_grammar::{Fault, expect, punct_at};
+use c_grammar::{Fault, Read, expect, punct_at};
 use c_syntax::{CType, Punct, Token, TokenKind, VarDecl};
 use parse_types::type_at;
 use std::alloc::Global;
@@ -21,9 +21,8 @@ fn more_declarators<'a>(
     base: &CType,
     first: List<VarDecl>,
     tokens: &'a [Token],
-) -> Result<(List<VarDecl>, &'a [Token]), Fault>
-    requires { room ≤ 200 }
-    ensures { Gives (map view_var) result (with_items (map view_var first) (more_items (spec.declarator_at types.now room (view_ctype base.now)) (length tokens.now) tokens.now)) }
+) -> Read<'a, List<VarDecl>>
+    ensures { Gives (map view_var) result (with_items (map view_var first) (more_separated (spec.declarator_at types.now room (view_ctype base.now)) (length tokens.now) tokens.now)) }
 {
     let mut vars = first;
     let mut rest = tokens;
@@ -39,7 +38,7 @@ fn more_declarators<'a>(
 }
 
 // The names so far, and those of a type, between commas.
-#[tactic(auto, using(crate::proofs::Reading::items_first, crate::proofs::Reading::items_are))]
+#[tactic(auto, using(c_grammar::proofs::Turns::items_first, crate::proofs::Reading::items_are))]
 fn some_declarators<'a>(
     alloc: Global,
     types: &[Str],
@@ -47,9 +46,8 @@ fn some_declarators<'a>(
     base: &CType,
     first: List<VarDecl>,
     tokens: &'a [Token],
-) -> Result<(List<VarDecl>, &'a [Token]), Fault>
-    requires { room ≤ 200 }
-    ensures { Gives (map view_var) result (with_items (map view_var first) (items_at (spec.declarator_at types.now room (view_ctype base.now)) tokens.now)) }
+) -> Read<'a, List<VarDecl>>
+    ensures { Gives (map view_var) result (with_items (map view_var first) (separated_at (spec.declarator_at types.now room (view_ctype base.now)) tokens.now)) }
 {
     let (var, rest) = another_declarator(alloc, types, room, base, tokens)?;
     let mut vars = first;
@@ -65,8 +63,7 @@ fn group_at<'a>(
     room: u32,
     first: List<VarDecl>,
     tokens: &'a [Token],
-) -> Result<(List<VarDecl>, &'a [Token]), Fault>
-    requires { room ≤ 200 }
+) -> Read<'a, List<VarDecl>>
     ensures { Gives (map view_var) result (with_items (map view_var first) (spec.group_of types.now (cond_at types.now) room tokens.now)) }
 {
     let (base, rest) = type_at(alloc, types, tokens)?;
@@ -87,13 +84,12 @@ pub fn at_brace(tokens: &[Token]) -> bool
 }
 
 /// The fields of a struct, up to the brace that closes them.
-pub fn read_fields<'a>(
+pub fn fields_at<'a>(
     alloc: Global,
     types: &[Str],
     room: u32,
     tokens: &'a [Token],
-) -> Result<(List<VarDecl>, &'a [Token]), Fault>
-    requires { room ≤ 200 }
+) -> Read<'a, List<VarDecl>>
     ensures { Gives (map view_var) result (spec.fields_at types.now room tokens.now) }
 {
     let mut fields = List::new(alloc);

@@ -4,15 +4,14 @@ ghost use Rattle.c_syntax.specs.View.{view_ctype, view_var};
 ghost use Rattle.c_syntax.specs.declared.token.Word.TheVariants as w;
 ghost use Rattle.c_syntax.specs.Expr as e;
 ghost use Rattle.c_grammar.specs.Reading as tokens_spec;
-ghost use Rattle.c_grammar.specs.Tokens.{first_line as line_of_first};
 ghost use Rattle.c_grammar.specs.Views.{Gives};
+ghost use Rattle.c_grammar.specs.ListReaders.{with_items, more_separated, separated_at};
 ghost use Rattle.parse_exprs.specs.Read.{cond_at};
-ghost use Rattle.parse_decls.specs.Items.{more_items, with_items, items_at};
 ghost use Rattle.parse_decls.specs.Read as spec;
 ghost use Rattle.parse_decls.specs.Views.{view_param, FindsRest};
 
 use crate::declarators::{array, declared, length_at};
-use c_grammar::{Fault, new_name_at, punct_at, word_at};
+use c_grammar::{Fault, Read, first_line, new_name_at, punct_at, word_at};
 use c_syntax::{CType, Punct, Token, TokenKind, VarDecl, Word};
 use parse_types::{stars_at, type_at};
 use std::alloc::Global;
@@ -35,8 +34,7 @@ fn bracketed<'a>(
     name: (Str, Line),
     ty: CType,
     tokens: &'a [Token],
-) -> Result<(VarDecl, &'a [Token]), Fault>
-    requires { room ≤ 200 }
+) -> Read<'a, VarDecl>
     ensures { Gives view_var result (spec.bracketed (spec.length_of (cond_at types.now) room) room name (view_ctype ty) tokens.now) }
 {
     if room == 0 {
@@ -53,13 +51,7 @@ fn bracketed<'a>(
 }
 
 #[tactic(auto, unfolding(crate::specs::Read::param_of))]
-fn param_at<'a>(
-    alloc: Global,
-    types: &[Str],
-    room: u32,
-    tokens: &'a [Token],
-) -> Result<(VarDecl, &'a [Token]), Fault>
-    requires { room ≤ 200 }
+fn param_at<'a>(alloc: Global, types: &[Str], room: u32, tokens: &'a [Token]) -> Read<'a, VarDecl>
     ensures { Gives view_var result (spec.param_of types.now (cond_at types.now) room tokens.now) }
 {
     let (base, rest) = type_at(alloc, types, tokens)?;
@@ -72,15 +64,6 @@ fn param_at<'a>(
     bracketed(alloc, types, room, name, ty, after)
 }
 
-fn first_line(tokens: &[Token]) -> Line
-    ensures { result ≡ line_of_first tokens.now }
-{
-    match tokens.split_first() {
-        Some((first, _)) => first.line,
-        None => 0,
-    }
-}
-
 // A parameter, with the line of its first token.
 #[tactic(auto, unfolding(crate::specs::Read::param_on_of))]
 fn param_on<'a>(
@@ -88,8 +71,7 @@ fn param_on<'a>(
     types: &[Str],
     room: u32,
     tokens: &'a [Token],
-) -> Result<((VarDecl, Line), &'a [Token]), Fault>
-    requires { room ≤ 200 }
+) -> Read<'a, (VarDecl, Line)>
     ensures { Gives view_param result (spec.param_on_of types.now (cond_at types.now) room tokens.now) }
 {
     let line = first_line(tokens);
@@ -104,9 +86,8 @@ fn more_params<'a>(
     room: u32,
     first: List<(VarDecl, Line)>,
     tokens: &'a [Token],
-) -> Result<(List<(VarDecl, Line)>, &'a [Token]), Fault>
-    requires { room ≤ 200 }
-    ensures { Gives (map view_param) result (with_items (map view_param first) (more_items (spec.param_on_of types.now (cond_at types.now) room) (length tokens.now) tokens.now)) }
+) -> Read<'a, List<(VarDecl, Line)>>
+    ensures { Gives (map view_param) result (with_items (map view_param first) (more_separated (spec.param_on_of types.now (cond_at types.now) room) (length tokens.now) tokens.now)) }
 {
     let mut params = first;
     let mut rest = tokens;
@@ -122,15 +103,14 @@ fn more_params<'a>(
 }
 
 // Parameters between commas.
-#[tactic(auto, using(crate::proofs::Reading::one_more), unfolding(crate::specs::Items::items_at))]
+#[tactic(auto, using(c_grammar::proofs::Turns::one_more), unfolding(c_grammar::specs::ListReaders::separated_at))]
 fn some_params<'a>(
     alloc: Global,
     types: &[Str],
     room: u32,
     tokens: &'a [Token],
-) -> Result<(List<(VarDecl, Line)>, &'a [Token]), Fault>
-    requires { room ≤ 200 }
-    ensures { Gives (map view_param) result (items_at (spec.param_on_of types.now (cond_at types.now) room) tokens.now) }
+) -> Read<'a, List<(VarDecl, Line)>>
+    ensures { Gives (map view_param) result (separated_at (spec.param_on_of types.now (cond_at types.now) room) tokens.now) }
 {
     let (param, rest) = param_on(alloc, types, room, tokens)?;
     let mut params = List::new(alloc);
@@ -161,13 +141,12 @@ fn no_params(tokens: &[Token]) -> Option<&[Token]>
 
 /// The parameters of a function, each with its line, up to the parenthesis that closes them.
 #[tactic(auto, unfolding(crate::specs::Read::params_at, crate::specs::Read::params_of))]
-pub fn read_params<'a>(
+pub fn params_at<'a>(
     alloc: Global,
     types: &[Str],
     room: u32,
     tokens: &'a [Token],
-) -> Result<(List<(VarDecl, Line)>, &'a [Token]), Fault>
-    requires { room ≤ 200 }
+) -> Read<'a, List<(VarDecl, Line)>>
     ensures { Gives (map view_param) result (spec.params_at types.now room tokens.now) }
 {
     if at_close(tokens) {
@@ -181,7 +160,7 @@ pub fn read_params<'a>(
 
 /// The tokens behind `extern` or `static`, if one comes first.
 #[tactic(auto, unfolding(crate::specs::Read::linkage_at))]
-pub fn behind_linkage(tokens: &[Token]) -> &[Token]
+pub fn linkage_at(tokens: &[Token]) -> &[Token]
     ensures { result.now ≡ spec.linkage_at tokens.now }
 {
     let Some((first, rest)) = tokens.split_first() else {

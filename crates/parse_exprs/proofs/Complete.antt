@@ -14,6 +14,7 @@ use Rattle.c_grammar.specs.Exprs.{SpellsPrimary, SpellsArgs, SpellsSomeArgs, Spe
 use Rattle.c_grammar.specs.Reading.{Reader, ◌>>=◌, punct_at, word_at}
 use Rattle.c_grammar.proofs.Readers.{bind_ok, got, pair_is}
 use Rattle.c_grammar.proofs.Levels.{Ends, Reads, reads_all, flat, looser_to, reads_binary}
+use Rattle.c_grammar.proofs.Chains.{chain_stops}
 use Rattle.parse_types.specs.Read.{starts_type, ends_type_name}
 use Rattle.parse_types.proofs.Laws.{type_name_complete, type_name_starts}
 use Rattle.parse_exprs.specs.declared.operators.Prefix.{Prefix}
@@ -22,7 +23,7 @@ use Rattle.parse_exprs.specs.declared.operators.Suffix.{Suffix}
 use Rattle.parse_exprs.specs.declared.operators.Suffix.TheVariants as behind
 use Rattle.parse_exprs.specs.Operators.{operator, assign_at, prefix_at, prefix_of, suffix_at, suffix_of}
 use Rattle.parse_exprs.specs.Read.{Inside, enclosed, arg, some_args, args_over, named, named_by, primary, suffix, suffixes, postfix, prefixed, prefixed_by, sizeof, cast, cast_at, unary_over, levels_from, binary, binary_from, binary_make, binary_chain, arms, chosen, cond_from, cond_over, assigned, assigns, expr_over, closed, over, forms, starts_expr, ends_expr}
-use Rattle.parse_exprs.proofs.Reading.{suffixes_stop, chain_stops}
+use Rattle.parse_exprs.proofs.Reading.{suffixes_stop}
 use Rattle.parse_exprs.proofs.Tokens.{assign_found}
 use Rattle.parse_exprs.proofs.First.{operator_here, operator_other, assign_here, prefix_here, suffix_here, operator_prefix, step_prefix, field_suffix, step_suffix, Stops, suffix_not_open, binop_stops, assign_stops, assign_no_operator, assign_no_question, ends_are, expression_starts, some_args_start, starts_no_close, BeginsPostfix, postfix_begins}
 use Rattle.parse_exprs.proofs.Sound.{cond_over_is}
@@ -256,7 +257,7 @@ unfolding levels_from
 from_stops zero unary a ts ends = refl
 from_stops (suc n) unary a ts ends =
     ap (λ o. o >>= λ b. binary_chain (suc n) (binary n unary) (length b.1) b.0 b.1) (from_stops n unary a ts (λ i le. ends i (omega arith)))
-    ∙ chain_stops (suc n) (length ts) (binary n unary) a ts (ends (suc n) (omega arith))
+    ∙ chain_stops binary_make (operator (suc n)) (length ts) (binary n unary) a ts (ends (suc n) (omega arith))
 
 -- a conditional ends before an operator of assignment
 finish_stops : (within : Inside) (unary : Reader e.Expr) (a : e.Expr) (q : Punct) (op : Option BinOp) (line : ℕ) (ts : List Token) → assign_of q ≡ Some op

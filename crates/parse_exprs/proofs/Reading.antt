@@ -11,18 +11,13 @@ use Rattle.c_grammar.specs.declared.fault.Fault.TheVariants.{Syntax, NoMemory}
 use Rattle.c_grammar.specs.Tokens.{Names}
 use Rattle.c_grammar.specs.Reading.{Reader, ◌>>=◌, chain, levels}
 use Rattle.c_grammar.specs.Views.{Gives}
+use Rattle.c_grammar.proofs.Readers.{gives_fault}
 use Rattle.parse_types.specs.Read.{type_name_at}
 use Rattle.parse_exprs.specs.declared.operators.Suffix.{Suffix}
 use Rattle.parse_exprs.specs.declared.trees.Place.{Place}
 use Rattle.parse_exprs.specs.Operators.{operator, assign_at, suffix_at}
 use Rattle.parse_exprs.specs.Read.{Inside, arg, some_args, args_then, args_over, suffix, suffixes, unary_over, levels_from, binary, binary_from, binary_chain, cond_from, cond_over, assigned, assigns, expr_over, closed, over, forms, if_room, inside, finish}
 use Rattle.parse_exprs.specs.Views.{assign_all, assign_to, view_arg, with_args, with_places}
-
--- a fault of a part is that of the whole
-pub gives_fault : {X Y Z W : Type 0} (see : X → Y) (see' : Z → W) (read : Option (Y × List Token)) (f : Y × List Token → Option (W × List Token)) (end : Fault)
-    → Gives see (Err end) read → Gives see' (Err end) (read >>= f)
-gives_fault see see' read f Syntax h = rw h refl
-gives_fault see see' read f NoMemory h = tt
 
 bind_some : {X : Type 0} (o : Option (X × List Token)) → o ≡ (o >>= λ a. Some (a.0, a.1))
 bind_some None = refl
@@ -108,31 +103,6 @@ binary_from_more zero p a ts le = absurd (omega arith)
 binary_from_more (suc n) p a ts le =
     let less : n ≡ suc n - 1 = omega arith in
     ap (λ m. binary_from m p a ts >>= λ b. binary_chain (suc n) (binary m p) (length b.1) b.0 b.1) less
-
-pub chain_ends : (n turns : ℕ) (p : Reader e.Expr) (a : e.Expr) (ts : List Token) → turns ≡ 0 → binary_chain n p turns a ts ≡ Some (a, ts)
-unfolding chain
-chain_ends n turns p a ts h = rw h refl
-
-pub chain_stops : (n turns : ℕ) (p : Reader e.Expr) (a : e.Expr) (ts : List Token) → operator n ts ≡ None → binary_chain n p turns a ts ≡ Some (a, ts)
-unfolding chain
-chain_stops n zero p a ts h = refl
-chain_stops n (suc turns) p a ts h = rw h refl
-
-chain_goes : (n turns turns' : ℕ) (p : Reader e.Expr) (a : e.Expr) (ts : List Token) (op : BinOp) (line : ℕ) (after : List Token) → turns ≡ turns' + 1 → operator n ts ≡ Some ((op, line), after)
-    → binary_chain n p turns a ts ≡ (p after >>= λ b. binary_chain n p turns' (e.binary line op a b.0) b.1)
-unfolding chain
-chain_goes n turns turns' p a ts op line after same found = rw (same, add-one, found) refl
-
-pub chain_turn : (n turns turns' : ℕ) (p : Reader e.Expr) (a b joined : e.Expr) (ts : List Token) (op : BinOp) (line : ℕ) (after rest : List Token) → turns ≡ turns' + 1 → operator n ts ≡ Some ((op, line), after)
-    → p after ≡ Some (b, rest) → joined ≡ e.binary line op a b → binary_chain n p turns' joined rest ≡ binary_chain n p turns a ts
-chain_turn n turns turns' p a b joined ts op line after rest same found read made =
-    ap (λ x. binary_chain n p turns' x rest) made
-    ∙ sym (chain_goes n turns turns' p a ts op line after same found ∙ ap (λ x. x >>= λ b. binary_chain n p turns' (e.binary line op a b.0) b.1) read)
-
-pub chain_fault : (n turns turns' : ℕ) (p : Reader e.Expr) (a : e.Expr) (ts : List Token) (op : BinOp) (line : ℕ) (after : List Token) (end : Fault) → turns ≡ turns' + 1 → operator n ts ≡ Some ((op, line), after)
-    → Gives view_expr (Err end) (p after) → Gives view_expr (Err end) (binary_chain n p turns a ts)
-chain_fault n turns turns' p a ts op line after end same found h =
-    rw (chain_goes n turns turns' p a ts op line after same found) (gives_fault view_expr view_expr (p after) _ end h)
 
 -- ---- operators behind an operand
 

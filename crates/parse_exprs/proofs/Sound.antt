@@ -15,8 +15,8 @@ use Rattle.c_grammar.specs.Exprs.{SpellsPrimary, SpellsArgs, SpellsSomeArgs, Spe
 use Rattle.c_grammar.specs.Reading.{Reader, ◌>>=◌, punct_at, word_at, name_at}
 use Rattle.c_grammar.proofs.Readers.{bind_ok, got, pair_is, Took, Sound}
 use Rattle.c_grammar.proofs.Levels.{Joins, Widens, levels_sound}
+use Rattle.c_grammar.proofs.SingleTokens.{punct_is, word_is, name_is}
 use Rattle.parse_types.specs.Read.{starts_type}
-use Rattle.parse_types.proofs.Tokens.{punct_is, word_is, name_is}
 use Rattle.parse_types.proofs.Laws.{type_name_sound}
 use Rattle.parse_exprs.specs.declared.operators.Prefix.{Prefix}
 use Rattle.parse_exprs.specs.declared.operators.Prefix.TheVariants as before

@@ -1,3 +1,4 @@
 pub mod Operators
 pub mod Read
 pub mod Views
+pub mod Exactness

@@ -9,14 +9,11 @@ use crate::operators::{Prefix, Suffix, assign_at, operator, prefix_at, suffix_at
 use crate::trees::{
     Place, assigned, binary, call, cast_to, conditional, field, index, step_behind, with_prefix,
 };
-use c_grammar::{Fault, expect, is_type, name_at, punct_at, word_at};
+use c_grammar::{Fault, LOOSEST, Read, expect, is_type, name_at, punct_at, word_at};
 use c_syntax::{Expr, ExprNode, Punct, Token, TokenKind, Word};
 use parse_types::{starts_type, type_name_at};
 use std::alloc::Global;
 use wp_base::{Line, List, Str};
-
-// The loosest level of the operators of two operands.
-const LOOSEST: u32 = 10;
 
 // An expression and the punctuator that closes it.
 #[cycle(exprs)]
@@ -27,7 +24,7 @@ fn enclosed<'a>(
     room: u32,
     close: Punct,
     tokens: &'a [Token],
-) -> Result<(Expr, &'a [Token]), Fault>
+) -> Read<'a, Expr>
     ensures { Gives view_expr result (spec.enclosed close (spec.inside types.now room) tokens.now) }
 {
     if room == 0 {
@@ -41,12 +38,7 @@ fn enclosed<'a>(
 // An argument, and whether a comma stands behind it, or else the closing parenthesis.
 #[cycle(exprs)]
 #[tactic(auto, unfolding(crate::specs::Read::arg))]
-fn arg<'a>(
-    alloc: Global,
-    types: &[Str],
-    room: u32,
-    tokens: &'a [Token],
-) -> Result<((Expr, bool), &'a [Token]), Fault>
+fn arg<'a>(alloc: Global, types: &[Str], room: u32, tokens: &'a [Token]) -> Read<'a, (Expr, bool)>
     ensures { Gives view_arg result (spec.arg (spec.expr_at types.now room) tokens.now) }
 {
     let (found, rest) = expr(alloc, types, room, tokens)?;
@@ -65,7 +57,7 @@ fn some_args<'a>(
     types: &[Str],
     room: u32,
     tokens: &'a [Token],
-) -> Result<(List<Expr>, &'a [Token]), Fault>
+) -> Read<'a, List<Expr>>
     ensures { Gives (map view_expr) result (spec.some_args (spec.expr_at types.now room) (length tokens.now) tokens.now) }
 {
     let mut args = List::new(alloc);
@@ -84,12 +76,7 @@ fn some_args<'a>(
 // The arguments of a call, and its closing parenthesis.
 #[cycle(exprs)]
 #[tactic(auto, using(crate::proofs::Reading::args_is), unfolding(crate::specs::Read::args_over))]
-fn args<'a>(
-    alloc: Global,
-    types: &[Str],
-    room: u32,
-    tokens: &'a [Token],
-) -> Result<(List<Expr>, &'a [Token]), Fault>
+fn args<'a>(alloc: Global, types: &[Str], room: u32, tokens: &'a [Token]) -> Read<'a, List<Expr>>
     ensures { Gives (map view_expr) result ((spec.inside types.now room).args tokens.now) }
 {
     if room == 0 {
@@ -111,7 +98,7 @@ fn named<'a>(
     name: &Str,
     line: Line,
     tokens: &'a [Token],
-) -> Result<(Expr, &'a [Token]), Fault>
+) -> Read<'a, Expr>
     ensures { Gives view_expr result (spec.named types.now (spec.inside types.now room) name.now line tokens.now) }
 {
     if is_type(types, name) {
@@ -129,12 +116,7 @@ fn named<'a>(
 // A primary expression (C11 6.5.1).
 #[cycle(exprs)]
 #[tactic(auto, using(c_syntax::proofs::Equations::expr_laws), unfolding(crate::specs::Read::primary))]
-fn primary<'a>(
-    alloc: Global,
-    types: &[Str],
-    room: u32,
-    tokens: &'a [Token],
-) -> Result<(Expr, &'a [Token]), Fault>
+fn primary<'a>(alloc: Global, types: &[Str], room: u32, tokens: &'a [Token]) -> Read<'a, Expr>
     ensures { Gives view_expr result (spec.primary types.now (spec.inside types.now room) tokens.now) }
 {
     let Some((first, rest)) = tokens.split_first() else {
@@ -169,7 +151,7 @@ fn suffix<'a>(
     line: Line,
     operand: Expr,
     tokens: &'a [Token],
-) -> Result<(Expr, &'a [Token]), Fault>
+) -> Read<'a, Expr>
     ensures { Gives view_expr result (spec.suffix (spec.inside types.now room) how line (view_expr operand) tokens.now) }
 {
     match how {
@@ -194,7 +176,7 @@ fn suffixes<'a>(
     room: u32,
     first: Expr,
     tokens: &'a [Token],
-) -> Result<(Expr, &'a [Token]), Fault>
+) -> Read<'a, Expr>
     ensures { Gives view_expr result (spec.suffixes (spec.inside types.now room) (length tokens.now) (view_expr first) tokens.now) }
 {
     let mut operand = first;
@@ -213,12 +195,7 @@ fn suffixes<'a>(
 // A postfix expression (C11 6.5.2).
 #[cycle(exprs)]
 #[tactic(auto, unfolding(crate::specs::Read::postfix))]
-fn postfix<'a>(
-    alloc: Global,
-    types: &[Str],
-    room: u32,
-    tokens: &'a [Token],
-) -> Result<(Expr, &'a [Token]), Fault>
+fn postfix<'a>(alloc: Global, types: &[Str], room: u32, tokens: &'a [Token]) -> Read<'a, Expr>
     ensures { Gives view_expr result (spec.postfix types.now (spec.inside types.now room) tokens.now) }
 {
     let (first, rest) = primary(alloc, types, room, tokens)?;
@@ -235,7 +212,7 @@ fn prefixed<'a>(
     prefix: Prefix,
     line: Line,
     tokens: &'a [Token],
-) -> Result<(Expr, &'a [Token]), Fault>
+) -> Read<'a, Expr>
     ensures { Gives view_expr result (spec.prefixed (spec.inside types.now room) prefix line tokens.now) }
 {
     if room == 0 {
@@ -253,7 +230,7 @@ fn sizeof<'a>(
     room: u32,
     line: Line,
     tokens: &'a [Token],
-) -> Result<(Expr, &'a [Token]), Fault>
+) -> Read<'a, Expr>
     ensures { Gives view_expr result (spec.sizeof (spec.inside types.now room) line tokens.now) }
 {
     let (_, rest) = expect(Punct::OpenParen, tokens)?;
@@ -275,7 +252,7 @@ fn cast<'a>(
     room: u32,
     line: Line,
     tokens: &'a [Token],
-) -> Result<(Expr, &'a [Token]), Fault>
+) -> Read<'a, Expr>
     ensures { Gives view_expr result (spec.cast (spec.inside types.now room) line tokens.now) }
 {
     if room == 0 {
@@ -303,12 +280,7 @@ fn cast_at<'a>(types: &[Str], tokens: &'a [Token]) -> Option<(Line, &'a [Token])
 // A unary expression (C11 6.5.3).
 #[cycle(exprs)]
 #[tactic(auto, using(crate::proofs::Reading::unary_is), unfolding(crate::specs::Read::unary_over))]
-fn unary<'a>(
-    alloc: Global,
-    types: &[Str],
-    room: u32,
-    tokens: &'a [Token],
-) -> Result<(Expr, &'a [Token]), Fault>
+fn unary<'a>(alloc: Global, types: &[Str], room: u32, tokens: &'a [Token]) -> Read<'a, Expr>
     ensures { Gives view_expr result (spec.unary_at types.now room tokens.now) }
 {
     if let Some(((prefix, line), rest)) = prefix_at(tokens) {
@@ -332,7 +304,7 @@ fn operands<'a>(
     room: u32,
     level: u32,
     tokens: &'a [Token],
-) -> Result<(Expr, &'a [Token]), Fault>
+) -> Read<'a, Expr>
     ensures { Gives view_expr result (spec.binary level (spec.unary_at types.now room) tokens.now) }
 {
     let (first, rest) = unary(alloc, types, room, tokens)?;
@@ -349,7 +321,7 @@ fn operands_from<'a>(
     level: u32,
     first: Expr,
     tokens: &'a [Token],
-) -> Result<(Expr, &'a [Token]), Fault>
+) -> Read<'a, Expr>
     ensures { Gives view_expr result (spec.binary_from level (spec.unary_at types.now room) (view_expr first) tokens.now) }
 {
     if level == 0 {
@@ -361,7 +333,7 @@ fn operands_from<'a>(
 
 // More operands of one level.
 #[cycle(exprs)]
-#[tactic(auto, using(crate::proofs::Reading::chain_ends, crate::proofs::Reading::chain_stops))]
+#[tactic(auto, using(c_grammar::proofs::Chains::chain_ends, c_grammar::proofs::Chains::chain_stops))]
 fn chain<'a>(
     alloc: Global,
     types: &[Str],
@@ -369,7 +341,7 @@ fn chain<'a>(
     level: u32,
     first: Expr,
     tokens: &'a [Token],
-) -> Result<(Expr, &'a [Token]), Fault>
+) -> Read<'a, Expr>
     requires { 1 ≤ level }
     ensures { Gives view_expr result (spec.binary_chain level (spec.binary (level - 1) (spec.unary_at types.now room)) (length tokens.now) (view_expr first) tokens.now) }
 {
@@ -389,12 +361,7 @@ fn chain<'a>(
 // Both arms, behind the question mark.
 #[cycle(exprs)]
 #[tactic(auto, unfolding(crate::specs::Read::arms))]
-fn arms<'a>(
-    alloc: Global,
-    types: &[Str],
-    room: u32,
-    tokens: &'a [Token],
-) -> Result<((Expr, Expr), &'a [Token]), Fault>
+fn arms<'a>(alloc: Global, types: &[Str], room: u32, tokens: &'a [Token]) -> Read<'a, (Expr, Expr)>
     ensures { Gives view_arms result (spec.arms (spec.inside types.now room) tokens.now) }
 {
     if room == 0 {
@@ -414,7 +381,7 @@ fn cond_from<'a>(
     room: u32,
     first: Expr,
     tokens: &'a [Token],
-) -> Result<(Expr, &'a [Token]), Fault>
+) -> Read<'a, Expr>
     ensures { Gives view_expr result (spec.finish types.now room (view_expr first) tokens.now) }
 {
     let (test, rest) = operands_from(alloc, types, room, LOOSEST, first, tokens)?;
@@ -433,7 +400,7 @@ pub(crate) fn cond<'a>(
     types: &[Str],
     room: u32,
     tokens: &'a [Token],
-) -> Result<(Expr, &'a [Token]), Fault>
+) -> Read<'a, Expr>
     ensures { Gives view_expr result (spec.cond_at types.now room tokens.now) }
 {
     let (first, rest) = unary(alloc, types, room, tokens)?;
@@ -448,7 +415,7 @@ pub(crate) fn expr<'a>(
     types: &[Str],
     room: u32,
     tokens: &'a [Token],
-) -> Result<(Expr, &'a [Token]), Fault>
+) -> Read<'a, Expr>
     ensures { Gives view_expr result (spec.expr_at types.now room tokens.now) }
 {
     let mut places = Vec::new(alloc);

@@ -4,6 +4,7 @@ ghost use Rattle.parse_exprs.specs.Operators as spec;
 ghost use Rattle.c_grammar.specs.Operators as table;
 ghost use Rattle.c_grammar.specs.Views.{Finds};
 
+use c_grammar::{binop_of, level_of, unop_of};
 use c_syntax::{BinOp, Punct, Token, TokenKind, UnOp};
 use wp_base::Line;
 
@@ -23,49 +24,6 @@ pub(crate) enum Suffix {
     Field(bool),
     // `++` or `--`, and whether it counts up
     Step(bool),
-}
-
-fn binop_of(punct: Punct) -> Option<BinOp>
-    ensures { result ≡ table.binop_of punct }
-{
-    match punct {
-        Punct::Star => Some(BinOp::Mul),
-        Punct::Slash => Some(BinOp::Div),
-        Punct::Percent => Some(BinOp::Rem),
-        Punct::Plus => Some(BinOp::Add),
-        Punct::Minus => Some(BinOp::Sub),
-        Punct::Shl => Some(BinOp::Shl),
-        Punct::Shr => Some(BinOp::Shr),
-        Punct::Less => Some(BinOp::Less),
-        Punct::AtMost => Some(BinOp::AtMost),
-        Punct::Greater => Some(BinOp::Greater),
-        Punct::AtLeast => Some(BinOp::AtLeast),
-        Punct::Equal => Some(BinOp::Equal),
-        Punct::NotEqual => Some(BinOp::NotEqual),
-        Punct::Amp => Some(BinOp::BitAnd),
-        Punct::Caret => Some(BinOp::BitXor),
-        Punct::Bar => Some(BinOp::BitOr),
-        Punct::And => Some(BinOp::And),
-        Punct::Or => Some(BinOp::Or),
-        _ => None,
-    }
-}
-
-fn level_of(op: BinOp) -> u32
-    ensures { result ≡ table.level op }
-{
-    match op {
-        BinOp::Mul | BinOp::Div | BinOp::Rem => 1,
-        BinOp::Add | BinOp::Sub => 2,
-        BinOp::Shl | BinOp::Shr => 3,
-        BinOp::Less | BinOp::AtMost | BinOp::Greater | BinOp::AtLeast => 4,
-        BinOp::Equal | BinOp::NotEqual => 5,
-        BinOp::BitAnd => 6,
-        BinOp::BitXor => 7,
-        BinOp::BitOr => 8,
-        BinOp::And => 9,
-        BinOp::Or => 10,
-    }
 }
 
 fn assign_of(punct: Punct) -> Option<Option<BinOp>>
@@ -90,13 +48,10 @@ fn assign_of(punct: Punct) -> Option<Option<BinOp>>
 fn prefix_of(punct: Punct) -> Option<Prefix>
     ensures { result ≡ spec.prefix_of punct }
 {
+    if let Some(op) = unop_of(punct) {
+        return Some(Prefix::Operator(op));
+    }
     match punct {
-        Punct::Amp => Some(Prefix::Operator(UnOp::AddressOf)),
-        Punct::Star => Some(Prefix::Operator(UnOp::Deref)),
-        Punct::Plus => Some(Prefix::Operator(UnOp::Plus)),
-        Punct::Minus => Some(Prefix::Operator(UnOp::Minus)),
-        Punct::Tilde => Some(Prefix::Operator(UnOp::BitNot)),
-        Punct::Not => Some(Prefix::Operator(UnOp::Not)),
         Punct::Increment => Some(Prefix::Step(true)),
         Punct::Decrement => Some(Prefix::Step(false)),
         _ => None,

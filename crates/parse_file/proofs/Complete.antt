@@ -7,15 +7,16 @@ use Rattle.c_syntax.specs.Expr as e
 use Rattle.c_syntax.specs.Stmt as s
 use Rattle.c_syntax.specs.Contract.{Contract}
 use Rattle.c_syntax.specs.Decl as d
-use Rattle.c_grammar.specs.Tokens.{Names, is_type, punct, word, name, annot_open, annot_close, first_line, most_open}
+use Rattle.c_grammar.specs.Tokens.{Names, is_type, punct, word, name, annot_open, annot_close, first_line}
 use Rattle.c_grammar.specs.Lists.{Separated, Repeated}
 use Rattle.c_grammar.specs.Types.{SpellsType, SpellsStars}
 use Rattle.c_grammar.specs.Annots.{contract_of, SpellsLogic}
 use Rattle.c_grammar.specs.Declarators.{SpellsDeclarator, SpellsInitialised, SpellsVariables}
 use Rattle.c_grammar.specs.Stmts.{SpellsBlock}
-use Rattle.c_grammar.specs.Decls.{most_within, SpellsParams, SpellsFields, SpellsEnumerators, SpellsLinkage, SpellsContractAt, SpellsEnd, SpellsFunction, SpellsDecl, SpellsDecls, Lines}
+use Rattle.c_grammar.specs.Decls.{SpellsParams, SpellsFields, SpellsEnumerators, SpellsLinkage, SpellsContractAt, SpellsEnd, SpellsFunction, SpellsDecl, SpellsDecls, Lines}
 use Rattle.c_grammar.specs.Reading.{punct_at}
 use Rattle.c_grammar.proofs.Readers.{got}
+use Rattle.c_grammar.specs.declared.limits.TheConstants.{DEEPEST, MOST_WITHIN}
 use Rattle.parse_types.specs.Read.{ends_stars}
 use Rattle.parse_types.proofs.Laws.{type_complete, stars_complete, type_starts}
 use Rattle.parse_decls.specs.Read.{declarator_at, variables_after, params_at, fields_at}
@@ -63,38 +64,38 @@ fields_read types room xs vs s line rest = fields_complete types room xs vs s (p
 
 definitions_complete : Parts → (types : Names) (end line line' : ℕ) (inside : List Token) (x : d.LogicDecl) (xs : List d.LogicDecl) → Repeated (SpellsLogic types) inside (x ∷ xs) → (rest : List Token)
     → r.decl_at types end (annot_open line ∷ (inside ++ annot_close line' ∷ rest)) ≡ Some (record { decls = map d.logic_decl (x ∷ xs); names = []; lines = [] }, rest)
-unfolding r.definitions_at r.annot_open_at r.annot_close_at
+unfolding r.definitions_at
 definitions_complete parts types end line line' inside x xs s rest =
     let close : List Token = annot_close line' ∷ rest in
     let formed : r.form_of (annot_open line ∷ (inside ++ close)) ≡ form.Definitions = annotated_form line (inside ++ close) true (definitions_begin s close) in
     by_form types end (annot_open line ∷ (inside ++ close)) form.Definitions formed ∙ rw (parts.logics types inside x xs s line' rest) refl
 
-struct_complete : Parts → (types : Names) (end line line' line'' line''' line'''' : ℕ) (x : List ℕ) (inside : List Token) (vs : List e.VarDecl) → is_type types x ≡ false → SpellsFields types most_within inside vs → (rest : List Token)
+struct_complete : Parts → (types : Names) (end line line' line'' line''' line'''' : ℕ) (x : List ℕ) (inside : List Token) (vs : List e.VarDecl) → is_type types x ≡ false → SpellsFields types MOST_WITHIN inside vs → (rest : List Token)
     → r.decl_at types end (word w.Struct line ∷ name x line' ∷ punct p.OpenBrace line'' ∷ (inside ++ punct p.CloseBrace line''' ∷ punct p.Semicolon line'''' ∷ rest))
     ≡ Some (r.alone (d.struct_decl (record { name = x; fields = vs; line = line' })), rest)
 unfolding r.struct_at
 struct_complete parts types end line line' line'' line''' line'''' x inside vs is_new s rest =
     let after : List Token = inside ++ punct p.CloseBrace line''' ∷ punct p.Semicolon line'''' ∷ rest in
     by_form types end (word w.Struct line ∷ name x line' ∷ punct p.OpenBrace line'' ∷ after) form.Struct (struct_form line line' line'' x after)
-    ∙ rw (is_new, fields_read types most_within inside vs s line''' (punct p.Semicolon line'''' ∷ rest)) refl
+    ∙ rw (is_new, fields_read types MOST_WITHIN inside vs s line''' (punct p.Semicolon line'''' ∷ rest)) refl
 
 enumerators_begin : {types : Names} {room : ℕ} {xs : List Token} {vs : List e.VarDecl} → SpellsEnumerators types room xs vs → (line : ℕ) × (more : List Token) × (xs ≡ punct p.OpenBrace line ∷ more)
 enumerators_begin (SpellsEnumerators.enumerators line line' line'' s eq) = (line, _, eq)
 enumerators_begin (SpellsEnumerators.trailing line line' line'' line''' s eq) = (line, _, eq)
 
-enum_complete : Parts → (types : Names) (end line line' : ℕ) (x : List ℕ) (inside : List Token) (vs : List e.VarDecl) → is_type types x ≡ false → SpellsEnumerators types most_open inside vs → (rest : List Token)
+enum_complete : Parts → (types : Names) (end line line' : ℕ) (x : List ℕ) (inside : List Token) (vs : List e.VarDecl) → is_type types x ≡ false → SpellsEnumerators types DEEPEST inside vs → (rest : List Token)
     → r.decl_at types end (word w.Enum line ∷ name x line' ∷ inside ++ rest) ≡ Some (r.alone (d.enum_decl (record { name = Some x; items = vs; line = line' })), rest)
 unfolding r.enum_at
 enum_complete parts types end line line' x inside vs is_new s rest =
     let begin = enumerators_begin s in
     let formed : r.form_of (word w.Enum line ∷ name x line' ∷ inside ++ rest) ≡ form.Enum =
     ap (λ l. r.form_of (word w.Enum line ∷ name x line' ∷ l ++ rest)) begin.2 ∙ enum_form line line' begin.0 x (begin.1 ++ rest) in
-    by_form types end (word w.Enum line ∷ name x line' ∷ inside ++ rest) form.Enum formed ∙ rw (is_new, enumerators_complete types most_open inside vs s rest) refl
+    by_form types end (word w.Enum line ∷ name x line' ∷ inside ++ rest) form.Enum formed ∙ rw (is_new, enumerators_complete types DEEPEST inside vs s rest) refl
 
 enum_by_brace : (types : Names) (line line' : ℕ) (more rest : List Token) → r.enum_by types line (punct p.OpenBrace line' ∷ more) (punct_at p.OpenBrace (punct p.OpenBrace line' ∷ more)) ≡ r.enum_by types line (punct p.OpenBrace line' ∷ more) (Some (line', more))
 enum_by_brace types line line' more rest = refl
 
-enum_alone_complete : Parts → (types : Names) (end line : ℕ) (inside : List Token) (vs : List e.VarDecl) → SpellsEnumerators types most_open inside vs → (rest : List Token)
+enum_alone_complete : Parts → (types : Names) (end line : ℕ) (inside : List Token) (vs : List e.VarDecl) → SpellsEnumerators types DEEPEST inside vs → (rest : List Token)
     → r.decl_at types end (word w.Enum line ∷ inside ++ rest) ≡ Some (r.alone (d.enum_decl (record { name = None; items = vs; line = line })), rest)
 unfolding r.enum_at
 enum_alone_complete parts types end line inside vs s rest =
@@ -103,16 +104,16 @@ enum_alone_complete parts types end line inside vs s rest =
     ap (λ l. r.form_of (word w.Enum line ∷ l ++ rest)) begin.2 ∙ enum_alone_form line begin.0 (begin.1 ++ rest) in
     let brace : punct_at p.OpenBrace (inside ++ rest) ≡ Some (begin.0, begin.1 ++ rest) = ap (λ l. punct_at p.OpenBrace (l ++ rest)) begin.2 in
     by_form types end (word w.Enum line ∷ inside ++ rest) form.Enum formed
-    ∙ ap (r.enum_by types line (inside ++ rest)) brace ∙ rw (enumerators_complete types most_open inside vs s rest) refl
+    ∙ ap (r.enum_by types line (inside ++ rest)) brace ∙ rw (enumerators_complete types DEEPEST inside vs s rest) refl
 
-typedef_complete : Parts → (types : Names) (end line line' : ℕ) (first second : List Token) (t : e.CType) (v : e.VarDecl) → SpellsType types first t → SpellsDeclarator types most_open t second v → (rest : List Token)
+typedef_complete : Parts → (types : Names) (end line line' : ℕ) (first second : List Token) (t : e.CType) (v : e.VarDecl) → SpellsType types first t → SpellsDeclarator types DEEPEST t second v → (rest : List Token)
     → r.decl_at types end (word w.Typedef line ∷ (first ++ (second ++ punct p.Semicolon line' ∷ rest))) ≡ Some (record { decls = d.typedef_decl v ∷ []; names = v.name ∷ []; lines = [] }, rest)
 unfolding r.typedef_at
 typedef_complete parts types end line line' first second t v s s' rest =
     let last : List Token = punct p.Semicolon line' ∷ rest in
     let ends = named_end_type (second ++ last) false (declarator_named s' last refl) in
     by_form types end (word w.Typedef line ∷ (first ++ (second ++ last))) form.Typedef (typedef_form line (first ++ (second ++ last)))
-    ∙ rw (type_complete types first t s (second ++ last) ends, declarator_reads types most_open t second v s' line' rest) refl
+    ∙ rw (type_complete types first t s (second ++ last) ends, declarator_reads types DEEPEST t second v s' line' rest) refl
 
 -- ---- functions and variables, behind their first type
 
@@ -127,20 +128,20 @@ plain_reads parts types end one two rest t is_function l s n =
     ∙ rw (linkage_complete types one l (two ++ rest) starts, read, named_open rest is_function n) refl
 
 globals_complete : Parts → (types : Names) (end line : ℕ) (one two three : List Token) (t : e.CType) (vs : List e.VarDecl) → SpellsLinkage one → SpellsType types two t
-    → Separated (SpellsInitialised types most_open t) three vs → (rest : List Token)
+    → Separated (SpellsInitialised types DEEPEST t) three vs → (rest : List Token)
     → r.decl_at types end (one ++ (two ++ (three ++ punct p.Semicolon line ∷ rest))) ≡ Some (r.alone (d.globals vs), rest)
 unfolding r.globals_at
 globals_complete parts types end line one two three t vs l s s' rest =
     let last : List Token = punct p.Semicolon line ∷ rest in
-    plain_reads parts types end one two (three ++ last) t false l s (variables_named s' last refl) ∙ rw (variables_read types most_open t three vs s' line rest) refl
+    plain_reads parts types end one two (three ++ last) t false l s (variables_named s' last refl) ∙ rw (variables_read types DEEPEST t three vs s' line rest) refl
 
 header_complete : Parts → (types : Names) (t t' : e.CType) (x : List ℕ) (line line' line'' : ℕ) (stars inside : List Token) (vs : List (e.VarDecl × ℕ)) → SpellsStars false stars t t' → is_type types x ≡ false
-    → SpellsParams types most_within inside vs → (rest : List Token)
+    → SpellsParams types MOST_WITHIN inside vs → (rest : List Token)
     → r.header_at types t (stars ++ name x line ∷ punct p.OpenParen line' ∷ (inside ++ punct p.CloseParen line'' ∷ rest)) ≡ Some (record { name = x; result = t'; params = vs; line = line }, rest)
 unfolding r.header_at ends_stars
 header_complete parts types t t' x line line' line'' stars inside vs s is_new s' rest =
     let after : List Token = name x line ∷ punct p.OpenParen line' ∷ (inside ++ punct p.CloseParen line'' ∷ rest) in
-    rw (stars_complete false stars t t' s after refl, is_new, params_read types most_within inside vs s' line'' rest) refl
+    rw (stars_complete false stars t t' s after refl, is_new, params_read types MOST_WITHIN inside vs s' line'' rest) refl
 
 block_begins : {types : Names} {room at line end : ℕ} {xs : List Token} {body : s.Stmts} {starts : List ℕ} → SpellsBlock types false false room at xs line end body starts → (rest : List Token)
     → punct_at p.Semicolon (xs ++ rest) ≡ None
@@ -163,7 +164,7 @@ function_reads parts types end first c t tail between h b rest head ending = rw 
 before_function : Parts → (types : Names) (at end : ℕ) (first one two tail : List Token) (c : Contract) (t : e.CType) → SpellsContractAt types at first c → SpellsLinkage one → SpellsType types two t → Named tail true
     → at + length (first ++ (one ++ (two ++ tail))) ≡ end
     → r.decl_at types end (first ++ (one ++ (two ++ tail))) ≡ r.function_at types end (first_line (first ++ (one ++ (two ++ tail)))) c t tail
-unfolding r.contracted_at r.contract_part r.annot_open_at r.annot_close_at
+unfolding r.contracted_at r.contract_part
 before_function parts types at end first one two tail c t (SpellsContractAt.none is) l s n place =
     plain_reads parts types end one two tail t true l s n ∙ ap (λ c. r.function_at types end (first_line (one ++ (two ++ tail))) c t tail) (sym is)
 before_function parts types at end first one two tail c t (SpellsContractAt.annotated line line' {inside} s eq) l s' n place =

@@ -133,7 +133,7 @@ type_no_body (SpellsType.type {first} {middle} {last} {all} c s c' eq is) rest n
 
 kind_plain : (types : Names) (kind : TokenKind) (line : ℕ) (ts : List Token) → t.kind_starts types kind ≡ true → NoBody (record { kind = kind; line = line } ∷ ts)
     → r.form_of (record { kind = kind; line = line } ∷ ts) ≡ form.Plain
-unfolding r.form_of r.annot_open_at r.bare_form r.is_typedef
+unfolding r.form_of r.bare_form r.is_typedef
 kind_plain types k.AnnotOpen line ts h none = absurd cc
 kind_plain types (k.Word w.Typedef) line ts h none = absurd cc
 kind_plain types _ line ts h none = rw (none.0, none.1) refl
@@ -146,7 +146,7 @@ starts_plain types (t ∷ ts) h none = kind_plain types t.kind t.line ts h none
 
 pub plain_form : {types : Names} {one two rest : List Token} {a : e.CType} {is_function : Bool} → SpellsLinkage one → SpellsType types two a → Named rest is_function → t.starts_type types (two ++ rest) ≡ true
     → r.form_of (one ++ (two ++ rest)) ≡ form.Plain
-unfolding r.form_of r.annot_open_at r.bare_form r.is_typedef r.is_struct r.is_enum
+unfolding r.form_of r.bare_form r.is_typedef r.is_struct r.is_enum
 plain_form {types} {one} {two} {rest} {a} {is_function} SpellsLinkage.none s n starts = starts_plain types (two ++ rest) starts (type_no_body s rest (named_no_brace rest is_function n))
 plain_form SpellsLinkage.extern s n starts = refl
 plain_form SpellsLinkage.static s n starts = refl
@@ -231,23 +231,23 @@ contract_begins {xs = xs} (SpellsContract.contract {first} {second} {third} s st
     ap r.begins_logic split ∙ items_begin s (second ++ (third ++ close)) (behaviors_begin s' (third ++ close) (endings_begin s'' close (close_begins line rest)))
 
 pub annotated_form : (line : ℕ) (ts : List Token) (is_definition : Bool) → r.begins_logic ts ≡ is_definition → r.form_of (annot_open line ∷ ts) ≡ (if is_definition then form.Definitions else form.Contracted)
-unfolding r.form_of r.annot_open_at
+unfolding r.form_of
 annotated_form line ts is_definition h = rw h refl
 
 -- ---- other first words
 
 pub typedef_form : (line : ℕ) (ts : List Token) → r.form_of (word w.Typedef line ∷ ts) ≡ form.Typedef
-unfolding r.form_of r.annot_open_at r.bare_form r.is_typedef
+unfolding r.form_of r.bare_form r.is_typedef
 typedef_form line ts = refl
 
 pub struct_form : (line line' line'' : ℕ) (x : List ℕ) (ts : List Token) → r.form_of (word w.Struct line ∷ name x line' ∷ punct p.OpenBrace line'' ∷ ts) ≡ form.Struct
-unfolding r.form_of r.annot_open_at r.bare_form r.is_typedef r.is_struct r.names_then r.after_name
+unfolding r.form_of r.bare_form r.is_typedef r.is_struct r.names_then r.after_name
 struct_form line line' line'' x ts = refl
 
 pub enum_form : (line line' line'' : ℕ) (x : List ℕ) (ts : List Token) → r.form_of (word w.Enum line ∷ name x line' ∷ punct p.OpenBrace line'' ∷ ts) ≡ form.Enum
-unfolding r.form_of r.annot_open_at r.bare_form r.is_typedef r.is_struct r.is_enum r.names_then r.after_name
+unfolding r.form_of r.bare_form r.is_typedef r.is_struct r.is_enum r.names_then r.after_name
 enum_form line line' line'' x ts = refl
 
 pub enum_alone_form : (line line' : ℕ) (ts : List Token) → r.form_of (word w.Enum line ∷ punct p.OpenBrace line' ∷ ts) ≡ form.Enum
-unfolding r.form_of r.annot_open_at r.bare_form r.is_typedef r.is_struct r.is_enum r.names_then r.after_name
+unfolding r.form_of r.bare_form r.is_typedef r.is_struct r.is_enum r.names_then r.after_name
 enum_alone_form line line' ts = refl

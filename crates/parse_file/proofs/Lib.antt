@@ -1,4 +1,3 @@
-pub mod Tokens
 pub mod Sound
 pub mod Reading
 pub mod FirstTokens

@@ -2,7 +2,6 @@
 use Rattle.std.proofs.Common.{◌≡◌, ℕ, zero, suc, ◌+◌, true, false, List, [], ◌∷◌, ◌++◌, length, Some, None, refl, sym, ap, ◌∙◌, arith, append_assoc, append-nil}
 use Rattle.c_syntax.specs.declared.token.Token.{Token}
 use Rattle.c_syntax.specs.declared.token.Punct.TheVariants as p
-use Rattle.c_syntax.specs.Decl as d
 use Rattle.c_grammar.specs.Tokens.{Names}
 use Rattle.parse_file.specs.Read as r
 use Rattle.parse_file.specs.Read.{Found, Front}

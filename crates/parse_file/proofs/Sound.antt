@@ -7,13 +7,15 @@ use Rattle.c_syntax.specs.Expr as e
 use Rattle.c_syntax.specs.Stmt as s
 use Rattle.c_syntax.specs.Contract.{Contract}
 use Rattle.c_syntax.specs.Decl as d
-use Rattle.c_grammar.specs.Tokens.{Names, is_type, punct, word, name, annot_open, annot_close, first_line, most_open}
+use Rattle.c_grammar.specs.Tokens.{Names, is_type, punct, word, name, annot_open, annot_close, first_line}
 use Rattle.c_grammar.specs.Types.{SpellsType, SpellsStars}
 use Rattle.c_grammar.specs.Annots.{contract_of, SpellsContract}
 use Rattle.c_grammar.specs.Declarators.{SpellsVariables}
-use Rattle.c_grammar.specs.Decls.{most_within, SpellsParams, SpellsLinkage, SpellsContractAt, SpellsEnd, SpellsFunction, SpellsDecl, SpellsDecls, Lines}
-use Rattle.c_grammar.specs.Reading.{punct_at, word_at, new_name_at}
+use Rattle.c_grammar.specs.Decls.{SpellsParams, SpellsLinkage, SpellsContractAt, SpellsEnd, SpellsFunction, SpellsDecl, SpellsDecls, Lines}
+use Rattle.c_grammar.specs.Reading.{punct_at, word_at, new_name_at, annot_open_at, annot_close_at}
 use Rattle.c_grammar.proofs.Readers.{Took, Sound, bind_ok, got, pair_is}
+use Rattle.c_grammar.specs.declared.limits.TheConstants.{DEEPEST, MOST_WITHIN}
+use Rattle.c_grammar.proofs.SingleTokens.{punct_is, word_is, new_name_is, open_is, close_is}
 use Rattle.parse_types.specs.Read.{type_at, stars_at}
 use Rattle.parse_types.proofs.Laws.{type_sound, stars_sound}
 use Rattle.parse_decls.specs.Read.{declarator_at, variables_after, params_at, fields_at, enumerators_at, linkage_at}
@@ -26,7 +28,6 @@ use Rattle.parse_file.specs.declared.forms.Form.{Form}
 use Rattle.parse_file.specs.declared.forms.Form.TheVariants as form
 use Rattle.parse_file.specs.Read as r
 use Rattle.parse_file.specs.Read.{Header, Ending, Found, Front}
-use Rattle.parse_file.proofs.Tokens.{punct_is, word_is, new_name_is, open_is, close_is}
 
 -- ---- joining parts
 
@@ -57,9 +58,9 @@ finish types at x y ts xs left rest h split spelled =
 definitions_sound : (types : Names) (at : ℕ) → Sound (Spelled types at) (r.definitions_at types)
 unfolding r.definitions_at
 definitions_sound types at ts x rest h =
-    let a = bind_ok (r.annot_open_at ts) _ (x, rest) h in
+    let a = bind_ok (annot_open_at ts) _ (x, rest) h in
     let ds = bind_ok (logics_at types a.0.1) _ (x, rest) a.2 in
-    let b = bind_ok (r.annot_close_at ds.0.1) _ (x, rest) ds.2 in
+    let b = bind_ok (annot_close_at ds.0.1) _ (x, rest) ds.2 in
     let inside = logics_sound types a.0.1 ds.0.0 ds.0.1 ds.1 in
     let opening = annot_open a.0.0 in
     let close = annot_close b.0.0 in
@@ -77,10 +78,10 @@ unfolding r.typedef_at
 typedef_sound types at ts x rest h =
     let a = bind_ok (word_at w.Typedef ts) _ (x, rest) h in
     let t = bind_ok (type_at types a.0.1) _ (x, rest) a.2 in
-    let v = bind_ok (declarator_at types most_open t.0.0 t.0.1) _ (x, rest) t.2 in
+    let v = bind_ok (declarator_at types DEEPEST t.0.0 t.0.1) _ (x, rest) t.2 in
     let b = bind_ok (punct_at p.Semicolon v.0.1) _ (x, rest) v.2 in
     let one = type_sound types a.0.1 t.0.0 t.0.1 t.1 in
-    let two = declarator_sound types most_open t.0.0 t.0.1 v.0.0 v.0.1 v.1 in
+    let two = declarator_sound types DEEPEST t.0.0 t.0.1 v.0.0 v.0.1 v.1 in
     let begin = word w.Typedef a.0.0 in
     let last = punct p.Semicolon b.0.0 in
     let made : Found = record { decls = d.typedef_decl v.0.0 ∷ []; names = v.0.0.name ∷ []; lines = [] } in
@@ -97,11 +98,11 @@ struct_sound types at ts x rest h =
     let a = bind_ok (word_at w.Struct ts) _ (x, rest) h in
     let n = bind_ok (new_name_at types a.0.1) _ (x, rest) a.2 in
     let b = bind_ok (punct_at p.OpenBrace n.0.1) _ (x, rest) n.2 in
-    let vs = bind_ok (fields_at types most_within b.0.1) _ (x, rest) b.2 in
+    let vs = bind_ok (fields_at types MOST_WITHIN b.0.1) _ (x, rest) b.2 in
     let c = bind_ok (punct_at p.CloseBrace vs.0.1) _ (x, rest) vs.2 in
     let f = bind_ok (punct_at p.Semicolon c.0.1) _ (x, rest) c.2 in
     let named = new_name_is types a.0.1 n.0.0 n.0.1 n.1 in
-    let inside = fields_sound types most_within b.0.1 vs.0.0 vs.0.1 vs.1 in
+    let inside = fields_sound types MOST_WITHIN b.0.1 vs.0.0 vs.0.1 vs.1 in
     let begin = word w.Struct a.0.0 in
     let called = name n.0.0.0 n.0.0.1 in
     let opening = punct p.OpenBrace b.0.0 in
@@ -122,8 +123,8 @@ struct_sound types at ts x rest h =
 enum_alone : (types : Names) (at line : ℕ) (ts : List Token) (brace : ℕ × List Token) (x : Found) (rest : List Token) → r.enum_by types line ts (Some brace) ≡ Some (x, rest)
     → Took (Spelled types at) (word w.Enum line ∷ ts) x rest
 enum_alone types at line ts brace x rest h =
-    let vs = bind_ok (enumerators_at types most_open ts) _ (x, rest) h in
-    let inside = enumerators_sound types most_open ts vs.0.0 vs.0.1 vs.1 in
+    let vs = bind_ok (enumerators_at types DEEPEST ts) _ (x, rest) h in
+    let inside = enumerators_sound types DEEPEST ts vs.0.0 vs.0.1 vs.1 in
     let made : Found = r.alone (d.enum_decl (record { name = None; items = vs.0.0; line = line })) in
     finish types at made x (word w.Enum line ∷ ts) (word w.Enum line ∷ inside.0) vs.0.1 rest vs.2 (ap (λ l. word w.Enum line ∷ l) inside.1)
     (same_names types at (word w.Enum line ∷ inside.0) made.decls [] (SpellsDecl.enum_alone inside.2))
@@ -132,9 +133,9 @@ enum_named : (types : Names) (at line : ℕ) (ts : List Token) (x : Found) (rest
     → Took (Spelled types at) (word w.Enum line ∷ ts) x rest
 enum_named types at line ts x rest h =
     let n = bind_ok (new_name_at types ts) _ (x, rest) h in
-    let vs = bind_ok (enumerators_at types most_open n.0.1) _ (x, rest) n.2 in
+    let vs = bind_ok (enumerators_at types DEEPEST n.0.1) _ (x, rest) n.2 in
     let named = new_name_is types ts n.0.0 n.0.1 n.1 in
-    let inside = enumerators_sound types most_open n.0.1 vs.0.0 vs.0.1 vs.1 in
+    let inside = enumerators_sound types DEEPEST n.0.1 vs.0.0 vs.0.1 vs.1 in
     let called = name n.0.0.0 n.0.0.1 in
     let made : Found = r.alone (d.enum_decl (record { name = Some n.0.0.0; items = vs.0.0; line = n.0.0.1 })) in
     let all : List Token = word w.Enum line ∷ called ∷ inside.0 in
@@ -162,7 +163,7 @@ pub record SpellsHeader (types : Names) (t : e.CType) (xs : List Token) (h : Hea
   pub inside : List Token
   pub starred : SpellsStars false stars t h.result
   pub is_new : is_type types h.name ≡ false
-  pub spelled : SpellsParams types most_within inside h.params
+  pub spelled : SpellsParams types MOST_WITHIN inside h.params
   pub split : xs ≡ stars ++ name h.name h.line ∷ punct p.OpenParen open_line ∷ (inside ++ punct p.CloseParen close_line ∷ [])
 
 header_sound : (types : Names) (t : e.CType) → Sound (SpellsHeader types t) (r.header_at types t)
@@ -171,13 +172,13 @@ header_sound types t ts x rest h =
     let u = bind_ok (stars_at false t ts) _ (x, rest) h in
     let n = bind_ok (new_name_at types u.0.1) _ (x, rest) u.2 in
     let a = bind_ok (punct_at p.OpenParen n.0.1) _ (x, rest) n.2 in
-    let vs = bind_ok (params_at types most_within a.0.1) _ (x, rest) a.2 in
+    let vs = bind_ok (params_at types MOST_WITHIN a.0.1) _ (x, rest) a.2 in
     let b = bind_ok (punct_at p.CloseParen vs.0.1) _ (x, rest) vs.2 in
     let made : Header = record { name = n.0.0.0; result = u.0.0; params = vs.0.0; line = n.0.0.1 } in
     let same = pair_is made x b.0.1 rest b.2 in
     let stars = stars_sound false t ts u.0.0 u.0.1 u.1 in
     let named = new_name_is types u.0.1 n.0.0 n.0.1 n.1 in
-    let inside = params_sound types most_within a.0.1 vs.0.0 vs.0.1 vs.1 in
+    let inside = params_sound types MOST_WITHIN a.0.1 vs.0.0 vs.0.1 vs.1 in
     let called = name n.0.0.0 n.0.0.1 in
     let opening = punct p.OpenParen a.0.0 in
     let close = punct p.CloseParen b.0.0 in
@@ -263,9 +264,9 @@ contract_sound_at : (types : Names) (end : ℕ) (ts : List Token) (c : Contract)
     → Took (SpellsContractAt types (end - length ts)) ts c rest
 unfolding r.contract_part
 contract_sound_at types end ts x rest le h =
-    let a = bind_ok (r.annot_open_at ts) _ (x, rest) h in
+    let a = bind_ok (annot_open_at ts) _ (x, rest) h in
     let c = bind_ok (contract_at types end a.0.1) _ (x, rest) a.2 in
-    let b = bind_ok (r.annot_close_at c.0.1) _ (x, rest) c.2 in
+    let b = bind_ok (annot_close_at c.0.1) _ (x, rest) c.2 in
     let same = pair_is c.0.0 x b.0.1 rest b.2 in
     let begun = open_is ts a.0.0 a.0.1 a.1 in
     let longer : length ts ≡ suc (length a.0.1) = ap length begun in
@@ -302,11 +303,11 @@ globals_sound : (types : Names) (at : ℕ) (t : e.CType) (two three ts : List To
     → r.globals_at types t ts ≡ Some (x, rest) → (xs : List Token) × (ts ≡ xs ++ rest) × Spelled types at (two ++ (three ++ xs)) x
 unfolding r.globals_at
 globals_sound types at t two three ts x rest linkage typed h =
-    let vs = bind_ok (variables_after types most_open t ts) _ (x, rest) h in
+    let vs = bind_ok (variables_after types DEEPEST t ts) _ (x, rest) h in
     let same = pair_is (r.alone (d.globals vs.0.0)) x vs.0.1 rest vs.2 in
-    let after = variables_after_sound types most_open t ts vs.0.0 vs.0.1 vs.1 in
+    let after = variables_after_sound types DEEPEST t ts vs.0.0 vs.0.1 vs.1 in
     let all : List Token = two ++ (three ++ after.0) in
-    let variables : SpellsVariables types most_open (three ++ after.0) vs.0.0 = SpellsVariables.variables after.2.1 typed after.2.3 (ap (λ l. three ++ l) after.2.2) in
+    let variables : SpellsVariables types DEEPEST (three ++ after.0) vs.0.0 = SpellsVariables.variables after.2.1 typed after.2.3 (ap (λ l. three ++ l) after.2.2) in
     (after.0, after.1 ∙ ap (λ l. after.0 ++ l) same.1, subst (Spelled types at all) same.0 (same_names types at all (d.globals vs.0.0 ∷ []) [] (SpellsDecl.globals linkage variables refl)))
 
 plain_by : (types : Names) (end at first : ℕ) (t : e.CType) (two three ts : List Token) (is_function : Bool) (x : Found) (rest : List Token) → SpellsLinkage two → SpellsType types three t
@@ -371,26 +372,3 @@ pub front_sound : (end turns : ℕ) (types : Names) (ts : List Token) → length
 unfolding r.front_of
 front_sound end zero types ts le = ([], refl, SpellsDecls.none)
 front_sound end (suc turns) types ts le = front_by_sound end turns types ts (r.decl_at types end ts) refl le (front_sound end turns)
-
--- ---- what is left is no longer
-
-took_shorter : {X : Type 0} (S : List Token → X → Type 0) (ts : List Token) (x : X) (rest : List Token) → Took S ts x rest → length rest ≤ length ts
-took_shorter S ts x rest took = let lengths : length ts ≡ length took.0 + length rest = ap length took.1 ∙ length-append took.0 rest in omega arith
-
-pub contract_shorter : (types : Names) (end : ℕ) (ts : List Token) (c : Contract) (rest : List Token) → length ts ≤ end → r.contract_part types end ts ≡ Some (c, rest) → length rest ≤ length ts
-contract_shorter types end ts c rest le h = took_shorter (SpellsContractAt types (end - length ts)) ts c rest (contract_sound_at types end ts c rest le h)
-
-pub type_shorter : (types : Names) (ts behind_linkage : List Token) (t : e.CType) (rest : List Token) → behind_linkage ≡ linkage_at ts → type_at types behind_linkage ≡ Some (t, rest)
-    → length rest ≤ length ts
-type_shorter types ts behind_linkage t rest is h =
-    let linkage = linkage_sound ts in
-    let lengths : length ts ≡ length linkage.0 + length (linkage_at ts) = ap length linkage.1 ∙ length-append linkage.0 (linkage_at ts) in
-    let same : length behind_linkage ≡ length (linkage_at ts) = ap length is in
-    let shorter = took_shorter (SpellsType types) behind_linkage t rest (type_sound types behind_linkage t rest h) in
-    omega arith
-
-pub header_shorter : (types : Names) (t : e.CType) (ts : List Token) (h : Header) (rest : List Token) → r.header_at types t ts ≡ Some (h, rest) → length rest ≤ length ts
-header_shorter types t ts h rest is = took_shorter (SpellsHeader types t) ts h rest (header_sound types t ts h rest is)
-
-pub decl_shorter : (types : Names) (end : ℕ) (ts : List Token) (x : Found) (rest : List Token) → length ts ≤ end → r.decl_at types end ts ≡ Some (x, rest) → length rest ≤ length ts
-decl_shorter types end ts x rest le h = took_shorter (Spelled types (end - length ts)) ts x rest (decl_sound types end ts x rest le h)

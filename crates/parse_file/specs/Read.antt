@@ -10,10 +10,11 @@ use Rattle.c_syntax.specs.Expr as e
 use Rattle.c_syntax.specs.Stmt as s
 use Rattle.c_syntax.specs.Contract.{Contract}
 use Rattle.c_syntax.specs.Decl as d
-use Rattle.c_grammar.specs.Tokens.{Names, first_line, most_open}
+use Rattle.c_grammar.specs.Tokens.{Names, first_line}
 use Rattle.c_grammar.specs.Annots.{contract_of}
-use Rattle.c_grammar.specs.Decls.{Lines, most_within, params_of, param_lines}
-use Rattle.c_grammar.specs.Reading.{Reader, ◌>>=◌, punct_at, word_at, name_at, new_name_at, keyword_at}
+use Rattle.c_grammar.specs.Decls.{Lines, params_of, param_lines}
+use Rattle.c_grammar.specs.Reading.{Reader, ◌>>=◌, punct_at, word_at, name_at, new_name_at, keyword_at, annot_open_at, annot_close_at}
+use Rattle.c_grammar.specs.declared.limits.TheConstants.{DEEPEST, MOST_WITHIN}
 use Rattle.parse_types.specs.Read.{type_at, stars_at}
 use Rattle.parse_decls.specs.Read.{declarator_at, variables_after, params_at, fields_at, enumerators_at, linkage_at}
 use Rattle.acsl_parser.specs.Read.{contract_at, logics_at}
@@ -26,24 +27,6 @@ use Rattle.parse_file.specs.declared.forms.Form.TheVariants as form
 abbrev pub is_found : {X : Type 0} → Option X → Bool
 is_found (Some x) = true
 is_found None = false
-
-abbrev pub annot_open_by : (line : ℕ) → TokenKind → Reader ℕ
-annot_open_by line k.AnnotOpen ts = Some (line, ts)
-annot_open_by line _ ts = None
-
--- the line of what opens an annotation, where it comes first
-unfoldable pub annot_open_at : Reader ℕ
-annot_open_at [] = None
-annot_open_at (t ∷ ts) = annot_open_by t.line t.kind ts
-
-abbrev pub annot_close_by : (line : ℕ) → TokenKind → Reader ℕ
-annot_close_by line k.AnnotClose ts = Some (line, ts)
-annot_close_by line _ ts = None
-
--- the line of what ends an annotation, where it comes first
-unfoldable pub annot_close_at : Reader ℕ
-annot_close_at [] = None
-annot_close_at (t ∷ ts) = annot_close_by t.line t.kind ts
 
 -- the tokens behind a name
 unfoldable pub after_name : List Token → Option (List Token)
@@ -121,7 +104,7 @@ pub record Header : Type 0 where
 -- {"*"} NAME "(" params ")", behind the type
 unfoldable pub header_at : Names → e.CType → Reader Header
 header_at types t ts =
-    stars_at false t ts >>= λ u. new_name_at types u.1 >>= λ x. punct_at p.OpenParen x.1 >>= λ a. params_at types most_within a.1 >>= λ vs. punct_at p.CloseParen vs.1 >>= λ b.
+    stars_at false t ts >>= λ u. new_name_at types u.1 >>= λ x. punct_at p.OpenParen x.1 >>= λ a. params_at types MOST_WITHIN a.1 >>= λ vs. punct_at p.CloseParen vs.1 >>= λ b.
     Some (record { name = x.0.0; result = u.0; params = vs.0; line = x.0.1 }, b.1)
 
 -- what a function ends in, with the line of its last token
@@ -167,21 +150,21 @@ contracted_at types end ts = contract_part types end ts >>= λ c. type_at types 
 -- "typedef" type declarator ";" (C11 6.7.8)
 unfoldable pub typedef_at : Names → Reader Found
 typedef_at types ts =
-    word_at w.Typedef ts >>= λ a. type_at types a.1 >>= λ t. declarator_at types most_open t.0 t.1 >>= λ v. punct_at p.Semicolon v.1 >>= λ b.
+    word_at w.Typedef ts >>= λ a. type_at types a.1 >>= λ t. declarator_at types DEEPEST t.0 t.1 >>= λ v. punct_at p.Semicolon v.1 >>= λ b.
     Some (record { decls = d.typedef_decl v.0 ∷ []; names = v.0.name ∷ []; lines = [] }, b.1)
 
 -- "struct" NAME "{" fields "}" ";" (C11 6.7.2.1)
 unfoldable pub struct_at : Names → Reader Found
 struct_at types ts =
-    word_at w.Struct ts >>= λ a. new_name_at types a.1 >>= λ x. punct_at p.OpenBrace x.1 >>= λ b. fields_at types most_within b.1 >>= λ vs.
+    word_at w.Struct ts >>= λ a. new_name_at types a.1 >>= λ x. punct_at p.OpenBrace x.1 >>= λ b. fields_at types MOST_WITHIN b.1 >>= λ vs.
     punct_at p.CloseBrace vs.1 >>= λ c. punct_at p.Semicolon c.1 >>= λ f.
     Some (alone (d.struct_decl (record { name = x.0.0; fields = vs.0; line = x.0.1 })), f.1)
 
 abbrev pub enum_by : Names → (line : ℕ) → List Token → Option (ℕ × List Token) → Option (Found × List Token)
 enum_by types line ts None =
-    new_name_at types ts >>= λ x. enumerators_at types most_open x.1 >>= λ vs.
+    new_name_at types ts >>= λ x. enumerators_at types DEEPEST x.1 >>= λ vs.
     Some (alone (d.enum_decl (record { name = Some x.0.0; items = vs.0; line = x.0.1 })), vs.1)
-enum_by types line ts (Some brace) = enumerators_at types most_open ts >>= λ vs. Some (alone (d.enum_decl (record { name = None; items = vs.0; line = line })), vs.1)
+enum_by types line ts (Some brace) = enumerators_at types DEEPEST ts >>= λ vs. Some (alone (d.enum_decl (record { name = None; items = vs.0; line = line })), vs.1)
 
 -- "enum" [NAME] enumerators (C11 6.7.2.2)
 unfoldable pub enum_at : Names → Reader Found
@@ -189,7 +172,7 @@ enum_at types ts = word_at w.Enum ts >>= λ a. enum_by types a.0 a.1 (punct_at p
 
 -- variables, behind the type
 unfoldable pub globals_at : Names → e.CType → Reader Found
-globals_at types t ts = variables_after types most_open t ts >>= λ vs. Some (alone (d.globals vs.0), vs.1)
+globals_at types t ts = variables_after types DEEPEST t ts >>= λ vs. Some (alone (d.globals vs.0), vs.1)
 
 -- a function without a contract, or variables
 unfoldable pub plain_at : Names → (end : ℕ) → Reader Found

@@ -1,13 +1,10 @@
 // Which declaration comes first, by its first tokens.
 ghost use Rattle.std.specs.Prelude.{◌≡◌};
-ghost use Rattle.c_grammar.specs.Tokens.{first_line as line_of_first};
-ghost use Rattle.c_grammar.specs.Views.{Finds};
 ghost use Rattle.parse_file.specs.Read as spec;
 ghost use Rattle.parse_file.specs.Views.{Skips};
 
-use c_grammar::{keyword_at, punct_at, word_at};
+use c_grammar::{annot_open_at, keyword_at, punct_at, word_at};
 use c_syntax::{Punct, Token, TokenKind, Word};
-use wp_base::Line;
 
 /// The forms of declarations, as their first tokens tell them.
 #[derive(Clone, Copy)]
@@ -21,40 +18,6 @@ pub enum Form {
     Enum,
     /// A function without a contract, or variables.
     Plain,
-}
-
-/// The line of the first token.
-pub fn first_line(tokens: &[Token]) -> Line
-    ensures { result ≡ line_of_first tokens.now }
-{
-    match tokens.first() {
-        Some(first) => first.line,
-        None => 0,
-    }
-}
-
-/// The line of what opens an annotation and the tokens after it, if it comes first.
-#[tactic(auto, unfolding(crate::specs::Read::annot_open_at))]
-pub fn annot_open_at(tokens: &[Token]) -> Option<(Line, &[Token])>
-    ensures { Finds (λ x. x) result (spec.annot_open_at tokens.now) }
-{
-    let (first, rest) = tokens.split_first()?;
-    match first.kind {
-        TokenKind::AnnotOpen => Some((first.line, rest)),
-        _ => None,
-    }
-}
-
-/// The line of what ends an annotation and the tokens after it, if it comes first.
-#[tactic(auto, unfolding(crate::specs::Read::annot_close_at))]
-pub fn annot_close_at(tokens: &[Token]) -> Option<(Line, &[Token])>
-    ensures { Finds (λ x. x) result (spec.annot_close_at tokens.now) }
-{
-    let (first, rest) = tokens.split_first()?;
-    match first.kind {
-        TokenKind::AnnotClose => Some((first.line, rest)),
-        _ => None,
-    }
 }
 
 /// The tokens after a name, if one comes first.

@@ -1,16 +1,17 @@
 // Functions (C11 6.7.6.3, 6.9.1; ACSL 2.3).
-ghost use Rattle.std.specs.Prelude.{[], ◌≡◌, ◌≤◌, length, IfOk};
+ghost use Rattle.std.specs.Prelude.{[], ◌≡◌, IfOk};
 ghost use Rattle.c_grammar.specs.Annots.{contract_of};
 ghost use Rattle.c_grammar.specs.Views.{Gives};
 ghost use Rattle.parse_file.specs.Read as spec;
 ghost use Rattle.parse_file.specs.Views.{view_ending, view_found, view_header};
 ghost use Rattle.c_syntax.specs.View.{view_contract, view_ctype};
 
-use crate::forms::{annot_close_at, annot_open_at};
 use crate::found::{Found, Lines};
 use crate::lines::{only, split_params};
 use acsl_parser::contract_at;
-use c_grammar::{Fault, expect, new_name_at, punct_at};
+use c_grammar::{
+    Fault, MOST_WITHIN, Read, annot_close_at, annot_open_at, expect, new_name_at, punct_at,
+};
 use c_syntax::{
     AssignsClause, CType, Contract, Decl, Function, Punct, Stmt, StmtNode, Token, VarDecl,
 };
@@ -47,8 +48,7 @@ pub fn contract_part<'a>(
     types: &[Str],
     end: usize,
     tokens: &'a [Token],
-) -> Result<(Contract, &'a [Token]), Fault>
-    requires { length tokens.now ≤ end }
+) -> Read<'a, Contract>
     ensures { Gives view_contract result (spec.contract_part types.now end tokens.now) }
 {
     let Some((_, inside)) = annot_open_at(tokens) else {
@@ -71,18 +71,13 @@ pub struct Header {
 }
 
 #[tactic(auto, unfolding(crate::specs::Read::header_at))]
-fn header_at<'a>(
-    alloc: Global,
-    types: &[Str],
-    ty: CType,
-    tokens: &'a [Token],
-) -> Result<(Header, &'a [Token]), Fault>
+fn header_at<'a>(alloc: Global, types: &[Str], ty: CType, tokens: &'a [Token]) -> Read<'a, Header>
     ensures { Gives view_header result (spec.header_at types.now (view_ctype ty) tokens.now) }
 {
     let (result, rest) = stars_at(alloc, false, ty, tokens)?;
     let ((name, line), rest) = new_name_at(alloc, types, rest)?;
     let (_, rest) = expect(Punct::OpenParen, rest)?;
-    let (params, rest) = params_at(alloc, types, 199, rest)?;
+    let (params, rest) = params_at(alloc, types, MOST_WITHIN, rest)?;
     let (_, rest) = expect(Punct::CloseParen, rest)?;
     let header = Header {
         name,
@@ -102,13 +97,7 @@ pub struct Ending {
 }
 
 #[tactic(auto, using(c_syntax::proofs::Equations::stmt_laws), unfolding(crate::specs::Read::ending_at))]
-fn ending_at<'a>(
-    alloc: Global,
-    types: &[Str],
-    end: usize,
-    tokens: &'a [Token],
-) -> Result<(Ending, &'a [Token]), Fault>
-    requires { length tokens.now ≤ end }
+fn ending_at<'a>(alloc: Global, types: &[Str], end: usize, tokens: &'a [Token]) -> Read<'a, Ending>
     ensures { Gives view_ending result (spec.ending_at types.now end tokens.now) }
 {
     if let Some((line, rest)) = punct_at(Punct::Semicolon, tokens) {
@@ -174,8 +163,7 @@ pub fn function_at<'a>(
     contract: Contract,
     ty: CType,
     tokens: &'a [Token],
-) -> Result<(Found, &'a [Token]), Fault>
-    requires { length tokens.now ≤ end }
+) -> Read<'a, Found>
     ensures { Gives view_found result (spec.function_at types.now end first (view_contract contract) (view_ctype ty) tokens.now) }
 {
     let (header, rest) = header_at(alloc, types, ty, tokens)?;

@@ -13,7 +13,7 @@ use Rattle.c_syntax.specs.Stmt as s
 use Rattle.c_syntax.specs.Contract.{LoopAnnot}
 use Rattle.c_grammar.specs.Tokens.{Names, first_line}
 use Rattle.c_grammar.specs.Stmts.{begins_labelled, defaults}
-use Rattle.c_grammar.specs.Reading.{Reader, ◌>>=◌, punct_at, word_at}
+use Rattle.c_grammar.specs.Reading.{Reader, ◌>>=◌, punct_at, word_at, annot_close_at}
 use Rattle.parse_types.specs.Read.{starts_type}
 use Rattle.parse_exprs.specs.Read.{expr_at, cond_at}
 use Rattle.parse_decls.specs.Read.{variables_at}
@@ -112,15 +112,6 @@ plain_by types room loops breaks line _ ts all = None
 unfoldable pub plain_at : Names → (room : ℕ) → (loops breaks : Bool) → Reader s.Stmt
 plain_at types room loops breaks [] = None
 plain_at types room loops breaks (t ∷ ts) = plain_by types room loops breaks t.line (form_of t.kind) ts (t ∷ ts)
-
-abbrev pub close_by : (line : ℕ) → TokenKind → Reader ℕ
-close_by line k.AnnotClose ts = Some (line, ts)
-close_by line _ ts = None
-
--- the line of the end of an annotation that comes first
-abbrev pub annot_close_at : Reader ℕ
-annot_close_at [] = None
-annot_close_at (t ∷ ts) = close_by t.line t.kind ts
 
 -- an assertion and the end of its annotation (ACSL 2.4.1)
 unfoldable pub assertion_at : Names → (room : ℕ) → Reader s.Stmt

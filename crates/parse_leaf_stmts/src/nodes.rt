@@ -6,7 +6,6 @@ ghost use Rattle.std.specs.Option.{option_map};
 ghost use Rattle.c_grammar.specs.Annots.{loop_of};
 ghost use Rattle.c_syntax.specs.Stmt as tree;
 ghost use Rattle.c_syntax.specs.View.{view_expr, view_loop, view_stmt};
-ghost use Rattle.parse_leaf_stmts.specs.Read as spec;
 ghost use Rattle.parse_leaf_stmts.specs.Views.{view_head};
 
 use crate::parts::Head;

@@ -1,8 +1,5 @@
 // Parts of statements, and statements that have none in them.
-ghost use Rattle.std.specs.Prelude.{◌≡◌, ◌≤◌};
-ghost use Rattle.c_grammar.specs.Tokens.{first_line as first_line_of};
 ghost use Rattle.c_grammar.specs.Views.{Gives};
-ghost use Rattle.c_syntax.specs.Stmt as tree;
 ghost use Rattle.c_syntax.specs.View.{view_expr, view_loop, view_stmt};
 ghost use Rattle.std.specs.Option.{option_map};
 ghost use Rattle.parse_leaf_stmts.specs.Read as spec;
@@ -10,8 +7,8 @@ ghost use Rattle.parse_leaf_stmts.specs.Views.{view_head};
 
 use crate::forms::{Form, form_of};
 use acsl_parser::{assert_at, loop_at};
-use c_grammar::{Fault, expect, punct_at, word_at};
-use c_syntax::{Expr, LoopAnnot, Punct, Stmt, StmtNode, Token, TokenKind, Word};
+use c_grammar::{Fault, Read, annot_close_at, expect, first_line, punct_at, word_at};
+use c_syntax::{Expr, LoopAnnot, Punct, Stmt, StmtNode, Token, Word};
 use parse_decls::variables_at;
 use parse_exprs::{cond_at, expr_at};
 use parse_types::starts_type;
@@ -27,16 +24,6 @@ pub struct Around {
     pub breaks: bool,
 }
 
-/// The line of the first token.
-pub fn first_line(tokens: &[Token]) -> Line
-    ensures { result ≡ first_line_of tokens.now }
-{
-    match tokens.split_first() {
-        Some((first, _)) => first.line,
-        None => 0,
-    }
-}
-
 // An expression and this punctuator.
 #[tactic(auto, unfolding(crate::specs::Read::ended_at))]
 fn ended_at<'a>(
@@ -45,8 +32,7 @@ fn ended_at<'a>(
     room: u32,
     end: Punct,
     tokens: &'a [Token],
-) -> Result<(Expr, &'a [Token]), Fault>
-    requires { room ≤ 200 }
+) -> Read<'a, Expr>
     ensures { Gives view_expr result (spec.ended_at types.now room end tokens.now) }
 {
     let (value, rest) = expr_at(alloc, types, room, tokens)?;
@@ -56,13 +42,7 @@ fn ended_at<'a>(
 
 /// An expression in parentheses.
 #[tactic(auto, unfolding(crate::specs::Read::test_at))]
-pub fn test_at<'a>(
-    alloc: Global,
-    types: &[Str],
-    room: u32,
-    tokens: &'a [Token],
-) -> Result<(Expr, &'a [Token]), Fault>
-    requires { room ≤ 200 }
+pub fn test_at<'a>(alloc: Global, types: &[Str], room: u32, tokens: &'a [Token]) -> Read<'a, Expr>
     ensures { Gives view_expr result (spec.test_at types.now room tokens.now) }
 {
     let (_, rest) = expect(Punct::OpenParen, tokens)?;
@@ -77,8 +57,7 @@ pub fn optional_at<'a>(
     room: u32,
     end: Punct,
     tokens: &'a [Token],
-) -> Result<(Option<Expr>, &'a [Token]), Fault>
-    requires { room ≤ 200 }
+) -> Read<'a, Option<Expr>>
     ensures { Gives (option_map view_expr) result (spec.optional_at types.now room end tokens.now) }
 {
     if let Some((_, rest)) = punct_at(end, tokens) {
@@ -90,13 +69,7 @@ pub fn optional_at<'a>(
 
 /// A declaration of variables.
 #[tactic(auto, using(c_syntax::proofs::Equations::stmt_laws), unfolding(crate::specs::Read::locals_at))]
-pub fn locals_at<'a>(
-    alloc: Global,
-    types: &[Str],
-    room: u32,
-    tokens: &'a [Token],
-) -> Result<(Stmt, &'a [Token]), Fault>
-    requires { room ≤ 200 }
+pub fn locals_at<'a>(alloc: Global, types: &[Str], room: u32, tokens: &'a [Token]) -> Read<'a, Stmt>
     ensures { Gives view_stmt result (spec.locals_at types.now room tokens.now) }
 {
     let line = first_line(tokens);
@@ -107,13 +80,7 @@ pub fn locals_at<'a>(
 
 // An expression and a semicolon.
 #[tactic(auto, using(c_syntax::proofs::Equations::stmt_laws), unfolding(crate::specs::Read::value_at))]
-fn value_at<'a>(
-    alloc: Global,
-    types: &[Str],
-    room: u32,
-    tokens: &'a [Token],
-) -> Result<(Stmt, &'a [Token]), Fault>
-    requires { room ≤ 200 }
+fn value_at<'a>(alloc: Global, types: &[Str], room: u32, tokens: &'a [Token]) -> Read<'a, Stmt>
     ensures { Gives view_stmt result (spec.value_at types.now room tokens.now) }
 {
     let line = first_line(tokens);
@@ -124,13 +91,7 @@ fn value_at<'a>(
 
 // What a `for` does first.
 #[tactic(auto, using(c_syntax::proofs::Equations::stmt_laws), unfolding(crate::specs::Read::first_at))]
-fn first_at<'a>(
-    alloc: Global,
-    types: &[Str],
-    room: u32,
-    tokens: &'a [Token],
-) -> Result<(Stmt, &'a [Token]), Fault>
-    requires { room ≤ 200 }
+fn first_at<'a>(alloc: Global, types: &[Str], room: u32, tokens: &'a [Token]) -> Read<'a, Stmt>
     ensures { Gives view_stmt result (spec.first_at types.now room tokens.now) }
 {
     if let Some((line, rest)) = punct_at(Punct::Semicolon, tokens) {
@@ -153,13 +114,7 @@ pub struct Head {
 
 /// What comes behind `for`, up to its body.
 #[tactic(auto, unfolding(crate::specs::Read::head_at))]
-pub fn head_at<'a>(
-    alloc: Global,
-    types: &[Str],
-    room: u32,
-    tokens: &'a [Token],
-) -> Result<(Head, &'a [Token]), Fault>
-    requires { room ≤ 200 }
+pub fn head_at<'a>(alloc: Global, types: &[Str], room: u32, tokens: &'a [Token]) -> Read<'a, Head>
     ensures { Gives view_head result (spec.head_at types.now room tokens.now) }
 {
     let (_, rest) = expect(Punct::OpenParen, tokens)?;
@@ -171,13 +126,7 @@ pub fn head_at<'a>(
 
 /// What comes behind the body of a `do`.
 #[tactic(auto, unfolding(crate::specs::Read::do_end_at))]
-pub fn do_end_at<'a>(
-    alloc: Global,
-    types: &[Str],
-    room: u32,
-    tokens: &'a [Token],
-) -> Result<(Expr, &'a [Token]), Fault>
-    requires { room ≤ 200 }
+pub fn do_end_at<'a>(alloc: Global, types: &[Str], room: u32, tokens: &'a [Token]) -> Read<'a, Expr>
     ensures { Gives view_expr result (spec.do_end_at types.now room tokens.now) }
 {
     let Some((_, rest)) = word_at(Word::While, tokens) else {
@@ -196,8 +145,7 @@ pub fn case_at<'a>(
     room: u32,
     line: Line,
     tokens: &'a [Token],
-) -> Result<(Stmt, &'a [Token]), Fault>
-    requires { room ≤ 200 }
+) -> Read<'a, Stmt>
     ensures { Gives view_stmt result (spec.case_at types.now room line tokens.now) }
 {
     let (value, rest) = cond_at(alloc, types, room, tokens)?;
@@ -208,7 +156,7 @@ pub fn case_at<'a>(
 
 /// A colon, behind `default`.
 #[tactic(auto, using(c_syntax::proofs::Equations::stmt_laws), unfolding(crate::specs::Read::default_at))]
-pub fn default_at<'a>(line: Line, tokens: &'a [Token]) -> Result<(Stmt, &'a [Token]), Fault>
+pub fn default_at<'a>(line: Line, tokens: &'a [Token]) -> Read<'a, Stmt>
     ensures { Gives view_stmt result (spec.default_at line tokens.now) }
 {
     let (_, rest) = expect(Punct::Colon, tokens)?;
@@ -218,11 +166,7 @@ pub fn default_at<'a>(line: Line, tokens: &'a [Token]) -> Result<(Stmt, &'a [Tok
 
 // A semicolon, behind `break`.
 #[tactic(auto, using(c_syntax::proofs::Equations::stmt_laws), unfolding(crate::specs::Read::break_at))]
-fn break_at<'a>(
-    allowed: bool,
-    line: Line,
-    tokens: &'a [Token],
-) -> Result<(Stmt, &'a [Token]), Fault>
+fn break_at<'a>(allowed: bool, line: Line, tokens: &'a [Token]) -> Read<'a, Stmt>
     ensures { Gives view_stmt result (spec.break_at allowed line tokens.now) }
 {
     if !allowed {
@@ -235,11 +179,7 @@ fn break_at<'a>(
 
 // A semicolon, behind `continue`.
 #[tactic(auto, using(c_syntax::proofs::Equations::stmt_laws), unfolding(crate::specs::Read::continue_at))]
-fn continue_at<'a>(
-    allowed: bool,
-    line: Line,
-    tokens: &'a [Token],
-) -> Result<(Stmt, &'a [Token]), Fault>
+fn continue_at<'a>(allowed: bool, line: Line, tokens: &'a [Token]) -> Read<'a, Stmt>
     ensures { Gives view_stmt result (spec.continue_at allowed line tokens.now) }
 {
     if !allowed {
@@ -258,8 +198,7 @@ fn return_at<'a>(
     room: u32,
     line: Line,
     tokens: &'a [Token],
-) -> Result<(Stmt, &'a [Token]), Fault>
-    requires { room ≤ 200 }
+) -> Read<'a, Stmt>
     ensures { Gives view_stmt result (spec.return_at types.now room line tokens.now) }
 {
     let (value, rest) = optional_at(alloc, types, room, Punct::Semicolon, tokens)?;
@@ -275,8 +214,7 @@ pub fn plain_at<'a>(
     around: Around,
     room: u32,
     tokens: &'a [Token],
-) -> Result<(Stmt, &'a [Token]), Fault>
-    requires { room ≤ 200 }
+) -> Read<'a, Stmt>
     ensures { Gives view_stmt result (spec.plain_at types.now room around.loops around.breaks tokens.now) }
 {
     let Some((first, rest)) = tokens.split_first() else {
@@ -296,19 +234,6 @@ pub fn plain_at<'a>(
     }
 }
 
-// The line of the end of an annotation, which has to come first.
-fn annot_close_at(tokens: &[Token]) -> Result<(Line, &[Token]), Fault>
-    ensures { Gives (λ x. x) result (spec.annot_close_at tokens.now) }
-{
-    let Some((first, rest)) = tokens.split_first() else {
-        return Err(Fault::Syntax);
-    };
-    match first.kind {
-        TokenKind::AnnotClose => Ok((first.line, rest)),
-        _ => Err(Fault::Syntax),
-    }
-}
-
 /// An assertion and the end of its annotation.
 #[tactic(auto, using(c_syntax::proofs::Equations::stmt_laws), unfolding(crate::specs::Read::assertion_at))]
 pub fn assertion_at<'a>(
@@ -316,12 +241,13 @@ pub fn assertion_at<'a>(
     types: &[Str],
     room: u32,
     tokens: &'a [Token],
-) -> Result<(Stmt, &'a [Token]), Fault>
-    requires { room ≤ 200 }
+) -> Read<'a, Stmt>
     ensures { Gives view_stmt result (spec.assertion_at types.now room tokens.now) }
 {
     let ((pred, line), rest) = assert_at(alloc, types, room, tokens)?;
-    let (_, rest) = annot_close_at(rest)?;
+    let Some((_, rest)) = annot_close_at(rest) else {
+        return Err(Fault::Syntax);
+    };
     let node = StmtNode::Assert(pred);
     Ok((Stmt { node, line }, rest))
 }
@@ -334,14 +260,15 @@ pub fn loop_annot_at<'a>(
     room: u32,
     end: usize,
     tokens: &'a [Token],
-) -> Result<(LoopAnnot, &'a [Token]), Fault>
-    requires { room ≤ 200 }
+) -> Read<'a, LoopAnnot>
     ensures { Gives view_loop result (spec.loop_annot_at types.now room end tokens.now) }
 {
     if tokens.len() > end {
         return Err(Fault::Syntax);
     }
     let (annot, rest) = loop_at(alloc, types, room, end, tokens)?;
-    let (_, rest) = annot_close_at(rest)?;
+    let Some((_, rest)) = annot_close_at(rest) else {
+        return Err(Fault::Syntax);
+    };
     Ok((annot, rest))
 }

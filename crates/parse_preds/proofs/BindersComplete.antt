@@ -9,11 +9,12 @@ use Rattle.c_syntax.specs.declared.token.Punct.TheVariants as p
 use Rattle.c_syntax.specs.Expr as e
 use Rattle.c_grammar.specs.Tokens.{Names, is_type, punct, name}
 use Rattle.c_grammar.specs.Preds as g
-use Rattle.c_grammar.specs.Preds.{without_integer, SpellsLogicType, SpellsTyped, SpellsMoreBinders, SpellsBinders, declared}
+use Rattle.c_grammar.specs.Preds.{without_integer, SpellsLogicType, SpellsTyped, SpellsMoreBinders, SpellsBinders}
 use Rattle.c_grammar.specs.Reading.{keyword_at, keyword_by}
+use Rattle.c_grammar.specs.Declarators.{declared}
+use Rattle.c_grammar.specs.ListReaders.{with_items}
 use Rattle.parse_types.specs.Read.{starts_type, kind_starts, ends_type_name}
 use Rattle.parse_types.proofs.Laws.{type_name_complete, type_name_starts}
-use Rattle.parse_preds.specs.Next.{with_items}
 use Rattle.parse_preds.proofs.BindersSound.{bytes_same}
 use Rattle.parse_preds.specs.Binders.{logic_type_at, declared_at, typed_at, name_comes, type_comes, type_comes_by, binder_at, more_binders, binders_at}
 

@@ -9,12 +9,13 @@ use Rattle.c_syntax.specs.declared.token.Punct.TheVariants as p
 use Rattle.c_syntax.specs.Expr as e
 use Rattle.c_grammar.specs.Tokens.{Names, is_type, token, punct, name}
 use Rattle.c_grammar.specs.Preds as g
-use Rattle.c_grammar.specs.Preds.{without_integer, SpellsLogicType, SpellsTyped, SpellsMoreBinders, SpellsBinders, declared}
+use Rattle.c_grammar.specs.Preds.{without_integer, SpellsLogicType, SpellsTyped, SpellsMoreBinders, SpellsBinders}
 use Rattle.c_grammar.specs.Reading.{punct_at, keyword_at, keyword_by, new_name_at}
 use Rattle.c_grammar.proofs.Readers.{Took, Sound, bind_ok, guard_ok, got, pair_is}
-use Rattle.parse_types.proofs.Tokens.{punct_is, new_name_is}
+use Rattle.c_grammar.specs.Declarators.{declared}
+use Rattle.c_grammar.specs.ListReaders.{with_items}
+use Rattle.c_grammar.proofs.SingleTokens.{punct_is, new_name_is}
 use Rattle.parse_types.proofs.Laws.{type_name_sound}
-use Rattle.parse_preds.specs.Next.{with_items}
 use Rattle.parse_preds.specs.Binders.{logic_type_by, logic_type_at, declared_at, typed_at, type_comes, binder_at, comma_binders, more_binders, binders_from, binders_at}
 
 -- texts with the same bytes are equal

@@ -10,7 +10,8 @@ use Rattle.c_grammar.specs.Tokens.{Names, is_type}
 use Rattle.c_grammar.specs.Preds.{without_integer}
 use Rattle.c_grammar.specs.Reading.{◌>>=◌, punct_at}
 use Rattle.c_grammar.specs.Views.{Gives}
-use Rattle.parse_preds.specs.Next.{with_items}
+use Rattle.c_grammar.specs.ListReaders.{with_items}
+use Rattle.c_grammar.proofs.Turns.{with_one}
 use Rattle.parse_preds.specs.Binders.{binder_at, more_binders}
 
 -- where no typedef has the name, none is left out
@@ -22,17 +23,6 @@ without_none (x ∷ types) h =
       | false ↦ (λ other. ap (λ l. x ∷ l) (without_none types (rw other at h)))
     ]
     refl
-
--- one more among those before
-pub with_items_after : {X : Type 0} (xs : List X) (x : X) (given : Option (List X × List Token)) → with_items (xs ++ x ∷ []) given ≡ with_items xs (with_items (x ∷ []) given)
-with_items_after xs x None = refl
-with_items_after {X} xs x (Some y) = ap (λ (all : List X). Some (all, y.1)) (append_assoc xs (x ∷ []) y.0)
-
--- a fault of a part is that of the whole
-pub gives_fault : {X Y Z W : Type 0} (see : X → Y) (see' : Z → W) (read : Option (Y × List Token)) (f : Y × List Token → Option (W × List Token)) (e : Fault)
-    → Gives see (Err e) read → Gives see' (Err e) (read >>= f)
-gives_fault see see' read f Syntax h = rw h refl
-gives_fault see see' read f NoMemory h = tt
 
 pub more_binders_end : (types : Names) (turns : ℕ) (xs : List e.VarDecl) (type : e.CType) (ts : List Token) → turns ≡ 0 → with_items xs (more_binders types turns type ts) ≡ Some (xs, ts)
 unfolding more_binders
@@ -51,7 +41,7 @@ more_binders_go types turns turns' type ts line after e found = rw (e, add-one, 
 pub more_binders_turn : (types : Names) (turns turns' : ℕ) (xs : List e.VarDecl) (x : e.VarDecl) (type : e.CType) (ts : List Token) (line : ℕ) (after rest : List Token) → turns ≡ turns' + 1 → punct_at p.Comma ts ≡ Some (line, after)
     → binder_at types type after ≡ Some (x, rest) → with_items (xs ++ x ∷ []) (more_binders types turns' x.ty rest) ≡ with_items xs (more_binders types turns type ts)
 more_binders_turn types turns turns' xs x type ts line after rest one found read =
-    with_items_after xs x (more_binders types turns' x.ty rest)
+    with_one xs x (more_binders types turns' x.ty rest)
     ∙ sym (ap (with_items xs) (more_binders_go types turns turns' type ts line after one found ∙ ap (λ o. o >>= λ x. with_items (x.0 ∷ []) (more_binders types turns' x.0.ty x.1)) read))
 
 pub more_binders_fault : {X Z : Type 0} (see : X → e.VarDecl) (see' : Z → List e.VarDecl) (types : Names) (turns turns' : ℕ) (xs : List e.VarDecl) (type : e.CType) (ts : List Token) (line : ℕ) (after : List Token) (e : Fault)

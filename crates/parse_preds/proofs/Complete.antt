@@ -15,10 +15,11 @@ use Rattle.c_grammar.specs.Terms.{anywhere, SpellsSomeTerms, SpellsPointer}
 use Rattle.c_grammar.specs.Preds as g
 use Rattle.c_grammar.specs.Preds.{SpellsChain, SpellsPointers, SpellsAtom}
 use Rattle.c_grammar.specs.Reading.{Reader, punct_at, past}
+use Rattle.c_grammar.specs.ListReaders.{with_items, more_separated}
 use Rattle.parse_types.specs.Read.{starts_type}
 use Rattle.parse_terms.specs.Next.{begins_chain, continues_behind, ends_term}
 use Rattle.parse_terms.specs.Read.{chain_term_at, some_terms_at, pointer_at}
-use Rattle.parse_preds.specs.Read.{ends_atom, comparison_at, with_items, with_tail, tail_at, chain_at, more_items, pointers_at, seen_as, named_by, named, closed, atom_at, under, enclosed, bracketed}
+use Rattle.parse_preds.specs.Read.{ends_atom, comparison_at, with_tail, tail_at, chain_at, pointers_at, seen_as, named_by, named, closed, atom_at, under, enclosed, bracketed}
 use Rattle.parse_preds.proofs.Ends.{comparison_ends, comparison_continues, comparison_takes, no_comparison, chain_may_end, not_continued, atom_stops}
 use Rattle.parse_preds.proofs.Below.{Below, Complete}
 use Rattle.parse_preds.proofs.Neutral.{Neutral, NoType}
@@ -147,20 +148,20 @@ pub record ItemsRead {X : Type 0} (read : Reader X) (ts : List Token) (items : L
   pub first : read ts ≡ Some (a, mid)
   pub all : a ∷ others ≡ items
   pub shorter : length mid ≤ length ts
-  pub tail : (turns : ℕ) → length mid ≤ turns → more_items read turns mid ≡ Some (others, rest)
+  pub tail : (turns : ℕ) → length mid ≤ turns → more_separated read turns mid ≡ Some (others, rest)
 
-items_over : {X : Type 0} (read : Reader X) (turns : ℕ) (ts : List Token) → punct_at p.Comma ts ≡ None → more_items read turns ts ≡ Some ([], ts)
-unfolding more_items
+items_over : {X : Type 0} (read : Reader X) (turns : ℕ) (ts : List Token) → punct_at p.Comma ts ≡ None → more_separated read turns ts ≡ Some ([], ts)
+unfolding more_separated
 items_over read zero ts h = refl
 items_over read (suc turns) ts h = rw h refl
 
 items_step : {X : Type 0} (read : Reader X) (turns line : ℕ) (after : List Token) (b : X) (rest : List Token) → read after ≡ Some (b, rest)
-    → more_items read (suc turns) (punct p.Comma line ∷ after) ≡ with_items (b ∷ []) (more_items read turns rest)
-unfolding more_items
+    → more_separated read (suc turns) (punct p.Comma line ∷ after) ≡ with_items (b ∷ []) (more_separated read turns rest)
+unfolding more_separated
 items_step read turns line after b rest took = rw took refl
 
 items_tail : {X : Type 0} (read : Reader X) (line : ℕ) (after : List Token) (items : List X) (rest : List Token) → ItemsRead read after items rest → (turns : ℕ) → suc (length after) ≤ turns
-    → more_items read turns (punct p.Comma line ∷ after) ≡ Some (items, rest)
+    → more_separated read turns (punct p.Comma line ∷ after) ≡ Some (items, rest)
 items_tail read line after items rest x zero le = absurd (omega arith)
 items_tail {X} read line after items rest x (suc turns) le =
     items_step read turns line after x.a x.mid x.first

@@ -13,11 +13,11 @@ use Rattle.c_grammar.specs.Tokens.{Names}
 use Rattle.c_grammar.specs.Preds.{connected}
 use Rattle.c_grammar.specs.Reading.{Reader, ◌>>=◌, punct_at, linked, chain, levels}
 use Rattle.c_grammar.specs.Views.{Gives}
+use Rattle.c_grammar.proofs.Readers.{gives_fault}
 use Rattle.parse_preds.specs.declared.parts.Frame.{Frame}
 use Rattle.parse_preds.specs.Next.{connective_at, ends_pred}
 use Rattle.parse_preds.specs.Read.{Form, an_operand, an_implied, a_whole, seen_as, atom_at, bound_at, value_at, body_at, arms_at, iff_at, iff_of, implies_by, cond_by, operand_by, operand_over, implied_over, whole_over, form_over, form_at, below_at, go_at}
 use Rattle.parse_preds.specs.Parts.{Part, ended, open_before, within, on_from, operand_part_by, operand_part, linked_part, chain_part, levels_part, implies_part, implied_part, cond_part, iff_part, whole_part, part_over, end_of, finished, operand_at, implied_at, whole_at, part_at, behind, view_frame, around, around_all}
-use Rattle.parse_preds.proofs.Binding.{gives_fault}
 use Rattle.parse_preds.proofs.Ends.{no_connective, pred_stops}
 use Rattle.parse_preds.proofs.Reading.{form_is}
 

@@ -15,7 +15,7 @@ use Rattle.c_grammar.specs.Preds as g
 use Rattle.c_grammar.specs.Preds.{SpellsAtom, SpellsOperand, SpellsJoined, SpellsImplied, SpellsIff, SpellsPred, SpellsBinders, connected}
 use Rattle.c_grammar.specs.Reading.{Reader, ◌>>=◌, nothing, punct_at}
 use Rattle.c_grammar.proofs.Readers.{Sound, bind_ok, got, pair_is}
-use Rattle.parse_types.proofs.Tokens.{punct_is}
+use Rattle.c_grammar.proofs.SingleTokens.{punct_is}
 use Rattle.parse_preds.specs.Read.{ends_pred, connective_at, seen_as, atom_at, Form, an_operand, an_implied, a_whole, body_at, bound_at, value_at, quantified, let_at, operand_by, operand_over, joined_over, implies_by, implied_over, iff_at, iff_of, iff_over, arms_at, cond_by, whole_over, form_over, turned, none_below, form_at, pred_at}
 use Rattle.parse_preds.proofs.Ends.{connective_is, pred_stops, no_connective}
 use Rattle.parse_preds.proofs.Below.{Below}

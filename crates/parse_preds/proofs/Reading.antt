@@ -15,8 +15,7 @@ use Rattle.c_grammar.specs.Tokens.{Names}
 use Rattle.c_grammar.specs.Operators.{is_chain, goes_up, goes_down}
 use Rattle.c_grammar.specs.Reading.{Reader, ◌>>=◌, punct_at, chain, levels}
 use Rattle.c_grammar.specs.Views.{Gives}
-use Rattle.parse_preds.specs.Read.{comparison_at, with_items, is_unequal, with_tail, tail_at, more_items, Form, an_operand, an_implied, a_whole, below_at, go_at, none_below, form_over, operand_over, implied_over, whole_over, iff_over, iff_of, iff_at, turned, form_at}
-use Rattle.parse_preds.proofs.Binding.{with_items_after}
+use Rattle.parse_preds.specs.Read.{comparison_at, is_unequal, with_tail, tail_at, Form, an_operand, an_implied, a_whole, below_at, go_at, none_below, form_over, operand_over, implied_over, whole_over, iff_over, iff_of, iff_at, turned, form_at}
 
 -- ---- chains of comparisons
 
@@ -66,34 +65,6 @@ pub tail_fault : {X Z : Type 0} (see : X → t.Term) (see' : Z → List t.Term �
     → Gives see (Err e) (read after) → Gives see' (Err e) (with_tail terms ops (tail_at read turns ts))
 tail_fault see see' read turns turns' terms ops ts op line after Syntax one found h = rw (tail_go read turns turns' ts op line after one found, h) refl
 tail_fault see see' read turns turns' terms ops ts op line after NoMemory one found h = tt
-
--- ---- items between commas
-
-pub more_items_end : {X : Type 0} (read : Reader X) (turns : ℕ) (xs : List X) (ts : List Token) → turns ≡ 0 → with_items xs (more_items read turns ts) ≡ Some (xs, ts)
-unfolding more_items
-more_items_end {X} read turns xs ts e = rw e (ap (λ (l : List X). Some (l, ts)) (append-nil xs))
-
-pub more_items_stop : {X : Type 0} (read : Reader X) (turns : ℕ) (xs : List X) (ts : List Token) → punct_at p.Comma ts ≡ None → with_items xs (more_items read turns ts) ≡ Some (xs, ts)
-unfolding more_items
-more_items_stop {X} read zero xs ts e = ap (λ (l : List X). Some (l, ts)) (append-nil xs)
-more_items_stop {X} read (suc turns) xs ts e = rw e (ap (λ (l : List X). Some (l, ts)) (append-nil xs))
-
-more_items_go : {X : Type 0} (read : Reader X) (turns turns' : ℕ) (ts : List Token) (line : ℕ) (after : List Token) → turns ≡ turns' + 1 → punct_at p.Comma ts ≡ Some (line, after)
-    → more_items read turns ts ≡ (read after >>= λ x. with_items (x.0 ∷ []) (more_items read turns' x.1))
-unfolding more_items
-more_items_go read turns turns' ts line after e found = rw (e, add-one, found) refl
-
-pub more_items_turn : {X : Type 0} (read : Reader X) (turns turns' : ℕ) (xs : List X) (x : X) (ts : List Token) (line : ℕ) (after rest : List Token) → turns ≡ turns' + 1 → punct_at p.Comma ts ≡ Some (line, after)
-    → read after ≡ Some (x, rest) → with_items (xs ++ x ∷ []) (more_items read turns' rest) ≡ with_items xs (more_items read turns ts)
-more_items_turn read turns turns' xs x ts line after rest one found took =
-    with_items_after xs x (more_items read turns' rest)
-    ∙ sym (ap (with_items xs) (more_items_go read turns turns' ts line after one found ∙ ap (λ o. o >>= λ x. with_items (x.0 ∷ []) (more_items read turns' x.1)) took))
-
-pub more_items_fault : {X Y Z : Type 0} (see : Y → X) (see' : Z → List X) (read : Reader X) (turns turns' : ℕ) (xs : List X) (ts : List Token) (line : ℕ) (after : List Token) (e : Fault)
-    → turns ≡ turns' + 1 → punct_at p.Comma ts ≡ Some (line, after)
-    → Gives see (Err e) (read after) → Gives see' (Err e) (with_items xs (more_items read turns ts))
-more_items_fault see see' read turns turns' xs ts line after Syntax one found h = rw (more_items_go read turns turns' ts line after one found, h) refl
-more_items_fault see see' read turns turns' xs ts line after NoMemory one found h = tt
 
 -- ---- `<==>`
 

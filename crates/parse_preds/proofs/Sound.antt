@@ -19,10 +19,12 @@ use Rattle.c_grammar.specs.Preds as g
 use Rattle.c_grammar.specs.Preds.{SpellsChain, SpellsPointers, SpellsAtom, SpellsOperand, SpellsJoined, SpellsImplied, SpellsIff, SpellsPred, SpellsBinders, connected}
 use Rattle.c_grammar.specs.Reading.{Reader, ◌>>=◌, punct_at, new_name_at}
 use Rattle.c_grammar.proofs.Readers.{Took, Sound, bind_ok, guard_ok, got, pair_is}
-use Rattle.parse_types.proofs.Tokens.{punct_is, new_name_is}
+use Rattle.c_grammar.specs.ListReaders.{more_separated}
+use Rattle.c_grammar.proofs.SingleTokens.{punct_is, new_name_is}
+use Rattle.c_grammar.proofs.Separating.{more_separated_sound}
 use Rattle.parse_terms.specs.Next.{begins_chain}
 use Rattle.parse_terms.specs.Read.{term_at, chain_term_at, some_terms_at, pointer_at}
-use Rattle.parse_preds.specs.Read.{ends_pred, comparison_at, with_items, with_tail, Tail, tail_at, tail_from, compared_more, chained, chain_at, more_items, comma_more, pointers_from, pointers_at, seen_as, named_by, named, closed_by, closed, atom_at, Form, an_operand, an_implied, a_whole, under, enclosed, bracketed, body_at, bound_at, value_at, binders_at}
+use Rattle.parse_preds.specs.Read.{ends_pred, comparison_at, with_tail, Tail, tail_at, tail_from, compared_more, chained, chain_at, pointers_from, pointers_at, seen_as, named_by, named, closed_by, closed, atom_at, Form, an_operand, an_implied, a_whole, under, enclosed, bracketed, body_at, bound_at, value_at, binders_at}
 use Rattle.parse_preds.proofs.Ends.{comparison_is}
 use Rattle.parse_preds.proofs.Below.{Below, SpellsList}
 use Rattle.parse_preds.proofs.BindersSound.{binders_sound, with_items_ok}
@@ -61,34 +63,6 @@ under_ok read (suc room) ts x h =
 -- tokens before a closing one
 closes : (xs ts mid rest : List Token) (c : Token) → ts ≡ xs ++ mid → mid ≡ c ∷ rest → ts ≡ (xs ++ c ∷ []) ++ rest
 closes xs ts mid rest c h h' = h ∙ ap (λ l. xs ++ l) h' ∙ sym (append_assoc xs (c ∷ []) rest)
-
--- ---- items between commas
-
-pub more_items_sound : {X : Type 0} (Item : List Token → X → Type 0) (read : Reader X) → Sound Item read → (turns : ℕ) (left : List Token) (a : X) → Item left a
-    → (ts : List Token) (xs : List X) (rest : List Token) → more_items read turns ts ≡ Some (xs, rest) → (ys : List Token) × (ts ≡ ys ++ rest) × Separated Item (left ++ ys) (a ∷ xs)
-unfolding more_items
-more_items_sound {X} Item read sound zero left a s ts xs rest h =
-    let nil : List X = [] in
-    let same = pair_is nil xs ts rest h in
-    ([], same.1, subst (λ (xs : List X). Separated Item (left ++ []) (a ∷ xs)) same.0 (lists.one (subst (λ l. Item l a) (sym (append-nil left)) s)))
-more_items_sound {X} Item read sound (suc turns) left a s ts xs rest h =
-    elim (punct_at p.Comma ts) as (λ o. punct_at p.Comma ts ≡ o → comma_more o ts read (more_items read turns) ≡ Some (xs, rest) → (ys : List Token) × (ts ≡ ys ++ rest) × Separated Item (left ++ ys) (a ∷ xs)) [
-      | None ↦ (λ none h.
-          let nil : List X = [] in
-          let same = pair_is nil xs ts rest h in
-          ([], same.1, subst (λ (xs : List X). Separated Item (left ++ []) (a ∷ xs)) same.0 (lists.one (subst (λ l. Item l a) (sym (append-nil left)) s))))
-      | Some c ↦ (λ some h.
-          let x = bind_ok (read c.1) (λ (x : X × List Token). with_items (x.0 ∷ []) (more_items read turns x.1)) (xs, rest) h in
-          let y = with_items_ok (x.0.0 ∷ []) (more_items read turns x.0.1) xs rest x.2 in
-          let first = sound c.1 x.0.0 x.0.1 x.1 in
-          let more = more_items_sound Item read sound turns first.0 x.0.0 first.2 x.0.1 y.0 rest y.1 in
-          let comma = punct p.Comma c.0 in (
-            comma ∷ (first.0 ++ more.0),
-            punct_is p.Comma ts c.0 c.1 some ∙ ap (λ l. comma ∷ l) (first.1 ∙ ap (λ l. first.0 ++ l) more.1 ∙ sym (append_assoc first.0 more.0 rest)),
-            subst (λ (xs : List X). Separated Item (left ++ comma ∷ (first.0 ++ more.0)) (a ∷ xs)) y.2 (lists.more c.0 s more.2 refl),
-          ))
-    ]
-    refl h
 
 -- ---- chains of comparisons
 
@@ -230,10 +204,10 @@ pointers_at_sound types laws room ts xs rest h =
     let a = bind_ok (pointer_at types room ts) (λ (a : t.Term × List Token). punct_at p.Comma a.1 >>= λ c. pointer_at types room c.1 >>= λ b. pointers_from types room a.0 b.0 b.1) (xs, rest) h in
     let c = bind_ok (punct_at p.Comma a.0.1) (λ (c : ℕ × List Token). pointer_at types room c.1 >>= λ b. pointers_from types room a.0.0 b.0 b.1) (xs, rest) a.2 in
     let b = bind_ok (pointer_at types room c.0.1) (λ (b : t.Term × List Token). pointers_from types room a.0.0 b.0 b.1) (xs, rest) c.2 in
-    let y = with_items_ok (a.0.0 ∷ b.0.0 ∷ []) (more_items (pointer_at types room) (length b.0.1) b.0.1) xs rest b.2 in
+    let y = with_items_ok (a.0.0 ∷ b.0.0 ∷ []) (more_separated (pointer_at types room) (length b.0.1) b.0.1) xs rest b.2 in
     let one = laws.pointer_sound room ts a.0.0 a.0.1 a.1 in
     let two = laws.pointer_sound room c.0.1 b.0.0 b.0.1 b.1 in
-    let more = more_items_sound (SpellsPointer types room) (pointer_at types room) (laws.pointer_sound room) (length b.0.1) two.0 b.0.0 two.2 b.0.1 y.0 rest y.1 in
+    let more = more_separated_sound (SpellsPointer types room) (pointer_at types room) (laws.pointer_sound room) (length b.0.1) two.0 b.0.1 b.0.0 two.2 y.0 rest y.1 in
     let comma = punct p.Comma c.0.0 in
     let all = one.0 ++ comma ∷ (two.0 ++ more.0) in (
       all,

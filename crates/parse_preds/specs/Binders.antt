@@ -6,10 +6,11 @@ use Rattle.c_syntax.specs.declared.token.TokenKind.TheVariants as k
 use Rattle.c_syntax.specs.declared.token.Punct.TheVariants as p
 use Rattle.c_syntax.specs.Expr as e
 use Rattle.c_grammar.specs.Tokens.{Names}
-use Rattle.c_grammar.specs.Preds.{without_integer, declared}
+use Rattle.c_grammar.specs.Preds.{without_integer}
 use Rattle.c_grammar.specs.Reading.{Reader, ◌>>=◌, punct_at, keyword_at, new_name_at}
+use Rattle.c_grammar.specs.Declarators.{declared}
+use Rattle.c_grammar.specs.ListReaders.{with_items}
 use Rattle.parse_types.specs.Read.{starts_type, type_name_at}
-use Rattle.parse_preds.specs.Next.{with_items}
 
 abbrev pub logic_type_by : Names → Option (ℕ × List Token) → Reader e.CType
 logic_type_by types (Some x) ts = Some (e.integer, x.1)

@@ -3,3 +3,4 @@ pub mod Binders
 pub mod Read
 pub mod Views
 pub mod Parts
+pub mod Exactness

@@ -1,5 +1,5 @@
 -- What may come behind a predicate, and the operators of predicates (ACSL 2.2).
-use Rattle.std.specs.Prelude.{ℕ, ◌==◌, Bool, true, false, List, [], ◌∷◌, ◌++◌, Option, Some, None, if◌then◌else◌}
+use Rattle.std.specs.Prelude.{ℕ, ◌==◌, Bool, true, false, List, [], ◌∷◌, Option, Some, None, if◌then◌else◌}
 use Rattle.c_syntax.specs.declared.token.Token.{Token}
 use Rattle.c_syntax.specs.declared.token.TokenKind.{TokenKind}
 use Rattle.c_syntax.specs.declared.token.TokenKind.TheVariants as k
@@ -83,10 +83,3 @@ connective_by n line _ ts = None
 unfoldable pub connective_at : (n : ℕ) → Reader (Connective × ℕ)
 connective_at n [] = None
 connective_at n (t ∷ ts) = connective_by n t.line t.kind ts
-
--- ---- lists
-
--- with these before those that were read
-abbrev pub with_items : {X : Type 0} → List X → Option (List X × List Token) → Option (List X × List Token)
-with_items xs None = None
-with_items xs (Some x) = Some (xs ++ x.0, x.1)

@@ -17,9 +17,10 @@ use Rattle.c_grammar.specs.Tokens.{Names}
 use Rattle.c_grammar.specs.Operators.{is_chain}
 use Rattle.c_grammar.specs.Preds.{connected}
 use Rattle.c_grammar.specs.Reading.{Reader, ◌>>=◌, nothing, punct_at, new_name_at, unless_type, levels}
+use Rattle.c_grammar.specs.ListReaders.{with_items, more_separated}
 use Rattle.parse_terms.specs.Next.{begins_chain}
 use Rattle.parse_terms.specs.Read.{term_at, chain_term_at, some_terms_at, pointer_at}
-pub use Rattle.parse_preds.specs.Next.{ends_atom, ends_pred, comparison_at, connective_at, with_items}
+pub use Rattle.parse_preds.specs.Next.{ends_atom, ends_pred, comparison_at, connective_at}
 pub use Rattle.parse_preds.specs.Binders.{logic_type_at, typed_at, binders_at}
 
 -- what is read with one form more open
@@ -75,18 +76,9 @@ chain_at types room ts =
 
 -- ---- atoms
 
-abbrev pub comma_more : {X : Type 0} → Option (ℕ × List Token) → List Token → Reader X → Reader (List X) → Option (List X × List Token)
-comma_more None ts read go = Some ([], ts)
-comma_more (Some c) ts read go = read c.1 >>= λ x. with_items (x.0 ∷ []) (go x.1)
-
--- {"," item}, at most so many
-unfoldable pub more_items : {X : Type 0} → Reader X → (turns : ℕ) → Reader (List X)
-more_items read zero ts = Some ([], ts)
-more_items read (suc turns) ts = comma_more (punct_at p.Comma ts) ts read (more_items read turns)
-
 -- the pointers from the first two on
 abbrev pub pointers_from : Names → (room : ℕ) → t.Term → t.Term → Reader (List t.Term)
-pointers_from types room a b ts = with_items (a ∷ b ∷ []) (more_items (pointer_at types room) (length ts) ts)
+pointers_from types room a b ts = with_items (a ∷ b ∷ []) (more_separated (pointer_at types room) (length ts) ts)
 
 -- ptr "," ptr {"," ptr}
 unfoldable pub pointers_at : Names → (room : ℕ) → Reader (List t.Term)

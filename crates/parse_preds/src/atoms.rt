@@ -6,19 +6,14 @@ ghost use Rattle.c_grammar.specs.Views.{Gives};
 ghost use Rattle.parse_terms.specs.Read.{pointer_at as pointer_of, some_terms_at as some_terms_of};
 ghost use Rattle.parse_preds.specs.Read as spec;
 
-use c_grammar::{Fault, expect, is_type, punct_at};
+use c_grammar::{Fault, Read, expect, is_type, punct_at};
 use c_syntax::{Pred, PredNode, Punct, Term, Token};
 use parse_terms::{pointer_at, some_terms_at};
 use std::alloc::Global;
 use wp_base::{Boxed, Line, List, NoMemory, Str};
 
 // A pointer in parentheses.
-fn pointer_in<'a>(
-    alloc: Global,
-    types: &[Str],
-    room: u32,
-    tokens: &'a [Token],
-) -> Result<(Term, &'a [Token]), Fault>
+fn pointer_in<'a>(alloc: Global, types: &[Str], room: u32, tokens: &'a [Token]) -> Read<'a, Term>
     ensures { Gives view_term result (spec.bracketed (spec.under (pointer_of types.now) room) tokens.now) }
 {
     let (_, rest) = expect(Punct::OpenParen, tokens)?;
@@ -53,7 +48,7 @@ pub fn valid_at<'a>(
     room: u32,
     line: Line,
     tokens: &'a [Token],
-) -> Result<(Pred, &'a [Token]), Fault>
+) -> Read<'a, Pred>
     ensures { Gives view_pred result (spec.seen_as (r.valid line) (spec.bracketed (spec.under (pointer_of types.now) room) tokens.now)) }
 {
     let (pointer, rest) = pointer_in(alloc, types, room, tokens)?;
@@ -67,7 +62,7 @@ pub fn valid_read_at<'a>(
     room: u32,
     line: Line,
     tokens: &'a [Token],
-) -> Result<(Pred, &'a [Token]), Fault>
+) -> Read<'a, Pred>
     ensures { Gives view_pred result (spec.seen_as (r.valid_read line) (spec.bracketed (spec.under (pointer_of types.now) room) tokens.now)) }
 {
     let (pointer, rest) = pointer_in(alloc, types, room, tokens)?;
@@ -75,7 +70,7 @@ pub fn valid_read_at<'a>(
 }
 
 // More pointers behind two, each behind a comma.
-#[tactic(auto, using(crate::proofs::Reading::more_items_end, crate::proofs::Reading::more_items_stop))]
+#[tactic(auto, using(c_grammar::proofs::Turns::items_end, c_grammar::proofs::Turns::items_stop))]
 fn more_pointers<'a>(
     alloc: Global,
     types: &[Str],
@@ -83,7 +78,7 @@ fn more_pointers<'a>(
     first: Term,
     second: Term,
     tokens: &'a [Token],
-) -> Result<(List<Term>, &'a [Token]), Fault>
+) -> Read<'a, List<Term>>
     ensures { Gives (map view_term) result (spec.pointers_from types.now room (view_term first) (view_term second) tokens.now) }
 {
     let mut pointers = List::new(alloc);
@@ -108,7 +103,7 @@ fn pointers_at<'a>(
     types: &[Str],
     room: u32,
     tokens: &'a [Token],
-) -> Result<(List<Term>, &'a [Token]), Fault>
+) -> Read<'a, List<Term>>
     ensures { Gives (map view_term) result (spec.pointers_at types.now room tokens.now) }
 {
     let (first, rest) = pointer_at(alloc, types, room, tokens)?;
@@ -125,7 +120,7 @@ pub fn separated_at<'a>(
     room: u32,
     line: Line,
     tokens: &'a [Token],
-) -> Result<(Pred, &'a [Token]), Fault>
+) -> Read<'a, Pred>
     ensures { Gives view_pred result (spec.seen_as (r.separated line) (spec.bracketed (spec.under (spec.pointers_at types.now) room) tokens.now)) }
 {
     let (_, rest) = expect(Punct::OpenParen, tokens)?;
@@ -144,7 +139,7 @@ fn arguments<'a>(
     types: &[Str],
     room: u32,
     tokens: &'a [Token],
-) -> Result<(List<Term>, &'a [Token]), Fault>
+) -> Read<'a, List<Term>>
     ensures { Gives (map view_term) result (spec.enclosed (spec.under (some_terms_of types.now) room) tokens.now) }
 {
     if room == 0 {
@@ -164,7 +159,7 @@ pub fn named_at<'a>(
     name: &Str,
     line: Line,
     tokens: &'a [Token],
-) -> Result<(Pred, &'a [Token]), Fault>
+) -> Read<'a, Pred>
     ensures { Gives view_pred result (spec.named types.now room name.now line tokens.now) }
 {
     if is_type(types, name) {

@@ -1,15 +1,14 @@
 // Types and names that annotations declare (ACSL 2.2, 2.6.1).
-ghost use Rattle.std.specs.Prelude.{◌≡◌, IfOk, length, map, codes, true};
+ghost use Rattle.std.specs.Prelude.{◌≡◌, IfOk, length, map, codes};
 ghost use Rattle.c_syntax.specs.View.{view_ctype, view_var};
-ghost use Rattle.c_grammar.specs.Preds.{SpellsLogicType, SpellsTyped, without_integer as without_integer_of};
+ghost use Rattle.c_grammar.specs.Preds.{without_integer as without_integer_of};
 ghost use Rattle.c_grammar.specs.Tokens.{is_type as is_typedef_name};
 ghost use Rattle.c_grammar.specs.Views.{Gives};
-ghost use Rattle.parse_types.specs.Clauses.{IsOnly, IsSpelled};
-ghost use Rattle.parse_types.specs.Read.{ends_type_name, type_name_at as type_name_of};
+ghost use Rattle.c_grammar.specs.ListReaders.{with_items};
+ghost use Rattle.parse_types.specs.Read.{type_name_at as type_name_of};
 ghost use Rattle.parse_preds.specs.Binders as spec;
-ghost use Rattle.parse_preds.specs.Next.{with_items};
 
-use c_grammar::{Fault, keyword_at, new_name_at, punct_at};
+use c_grammar::{Read, keyword_at, new_name_at, punct_at};
 use c_syntax::{CType, Punct, Token, TokenKind, VarDecl};
 use parse_types::{starts_type, type_name_at};
 use std::alloc::Global;
@@ -40,11 +39,7 @@ fn without_integer(alloc: Global, types: &[Str]) -> Result<Vec<Str>, NoMemory>
 
 // The name of a type of C, where `integer` is none.
 #[tactic(auto, using(crate::proofs::Binding::without_none))]
-fn plain_type_at<'a>(
-    alloc: Global,
-    types: &[Str],
-    tokens: &'a [Token],
-) -> Result<(CType, &'a [Token]), Fault>
+fn plain_type_at<'a>(alloc: Global, types: &[Str], tokens: &'a [Token]) -> Read<'a, CType>
     ensures { Gives view_ctype result (type_name_of (without_integer_of types.now) tokens.now) }
 {
     if !hides_integer(types) {
@@ -54,13 +49,9 @@ fn plain_type_at<'a>(
     type_name_at(alloc, kept.as_slice(), tokens)
 }
 
-// `integer`, or the name of a type of C.
+/// A type of an annotation: `integer`, or the name of a type of C; and the tokens after it.
 #[tactic(auto, using(c_syntax::proofs::Equations::expr_laws), unfolding(crate::specs::Binders::logic_type_at))]
-fn read_logic_type<'a>(
-    alloc: Global,
-    types: &[Str],
-    tokens: &'a [Token],
-) -> Result<(CType, &'a [Token]), Fault>
+pub fn logic_type_at<'a>(alloc: Global, types: &[Str], tokens: &'a [Token]) -> Read<'a, CType>
     ensures { Gives view_ctype result (spec.logic_type_at types.now tokens.now) }
 {
     match keyword_at(INTEGER, tokens) {
@@ -76,7 +67,7 @@ fn declared_at<'a>(
     types: &[Str],
     ty: CType,
     tokens: &'a [Token],
-) -> Result<(VarDecl, &'a [Token]), Fault>
+) -> Read<'a, VarDecl>
     ensures { Gives view_var result (spec.declared_at types.now (view_ctype ty) tokens.now) }
 {
     let ((name, line), rest) = new_name_at(alloc, types, tokens)?;
@@ -89,16 +80,12 @@ fn declared_at<'a>(
     Ok((declared, rest))
 }
 
-// A type and a name.
+/// A type and a name, and the tokens after them.
 #[tactic(auto, unfolding(crate::specs::Binders::typed_at))]
-fn read_typed<'a>(
-    alloc: Global,
-    types: &[Str],
-    tokens: &'a [Token],
-) -> Result<(VarDecl, &'a [Token]), Fault>
+pub fn typed_at<'a>(alloc: Global, types: &[Str], tokens: &'a [Token]) -> Read<'a, VarDecl>
     ensures { Gives view_var result (spec.typed_at types.now tokens.now) }
 {
-    let (ty, rest) = read_logic_type(alloc, types, tokens)?;
+    let (ty, rest) = logic_type_at(alloc, types, tokens)?;
     declared_at(alloc, types, ty, rest)
 }
 
@@ -128,16 +115,11 @@ fn type_comes(types: &[Str], tokens: &[Token]) -> bool
 
 // A name, with a type before it or of this one.
 #[tactic(auto, unfolding(crate::specs::Binders::binder_at))]
-fn binder_at<'a>(
-    alloc: Global,
-    types: &[Str],
-    ty: &CType,
-    tokens: &'a [Token],
-) -> Result<(VarDecl, &'a [Token]), Fault>
+fn binder_at<'a>(alloc: Global, types: &[Str], ty: &CType, tokens: &'a [Token]) -> Read<'a, VarDecl>
     ensures { Gives view_var result (spec.binder_at types.now (view_ctype ty.now) tokens.now) }
 {
     if type_comes(types, tokens) {
-        return read_typed(alloc, types, tokens);
+        return typed_at(alloc, types, tokens);
     }
     declared_at(alloc, types, ty.copy(alloc)?, tokens)
 }
@@ -149,7 +131,7 @@ fn more_binders<'a>(
     types: &[Str],
     first: VarDecl,
     tokens: &'a [Token],
-) -> Result<(List<VarDecl>, &'a [Token]), Fault>
+) -> Read<'a, List<VarDecl>>
     ensures { Gives (map view_var) result (spec.binders_from types.now (view_var first) tokens.now) }
 {
     let mut ty = first.ty.copy(alloc)?;
@@ -170,39 +152,9 @@ fn more_binders<'a>(
 
 /// The binders of a quantifier: a type and names, where further types may stand before further names.
 #[tactic(auto, unfolding(crate::specs::Binders::binders_at))]
-pub fn binders_at<'a>(
-    alloc: Global,
-    types: &[Str],
-    tokens: &'a [Token],
-) -> Result<(List<VarDecl>, &'a [Token]), Fault>
+pub fn binders_at<'a>(alloc: Global, types: &[Str], tokens: &'a [Token]) -> Read<'a, List<VarDecl>>
     ensures { Gives (map view_var) result (spec.binders_at types.now tokens.now) }
 {
-    let (first, rest) = read_typed(alloc, types, tokens)?;
+    let (first, rest) = typed_at(alloc, types, tokens)?;
     more_binders(alloc, types, first, rest)
-}
-
-/// A type of an annotation: `integer`, or the name of a type of C; and the tokens after it.
-pub fn logic_type_at<'a>(
-    alloc: Global,
-    types: &[Str],
-    tokens: &'a [Token],
-) -> Result<(CType, &'a [Token]), Fault>
-    ensures reads { Gives view_ctype result (spec.logic_type_at types.now tokens.now) }
-    ensures spelled { IsSpelled (SpellsLogicType types.now) view_ctype tokens.now result }
-    ensures only { IsOnly (SpellsLogicType types.now) (λ rest. ends_type_name rest ≡ true) view_ctype tokens.now result }
-{
-    read_logic_type(alloc, types, tokens)
-}
-
-/// A type and a name, and the tokens after them.
-pub fn typed_at<'a>(
-    alloc: Global,
-    types: &[Str],
-    tokens: &'a [Token],
-) -> Result<(VarDecl, &'a [Token]), Fault>
-    ensures reads { Gives view_var result (spec.typed_at types.now tokens.now) }
-    ensures spelled { IsSpelled (SpellsTyped types.now) view_var tokens.now result }
-    ensures only { IsOnly (SpellsTyped types.now) (λ rest. Unit {0}) view_var tokens.now result }
-{
-    read_typed(alloc, types, tokens)
 }

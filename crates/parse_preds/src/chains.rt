@@ -9,7 +9,7 @@ ghost use Rattle.parse_preds.specs.Read as spec;
 ghost use Rattle.parse_preds.specs.Views.{view_tail};
 
 use crate::next::comparison_at;
-use c_grammar::Fault;
+use c_grammar::{Fault, Read};
 use c_syntax::{BinOp, Pred, PredNode, Term, Token};
 use parse_terms::chain_term_at;
 use std::alloc::Global;
@@ -60,7 +60,7 @@ fn is_unequal(ops: &[BinOp]) -> bool
 }
 
 // Whether these comparisons stand in one chain.
-#[tactic(auto, using(crate::proofs::Reading::chain_test))]
+#[tactic(auto, using(c_grammar::proofs::Chains::chain_test))]
 fn is_chain(ops: &[BinOp]) -> bool
     ensures { result ≡ is_chain_of ops.now }
 {
@@ -75,7 +75,7 @@ fn tail_at<'a>(
     room: u32,
     first: Term,
     tokens: &'a [Token],
-) -> Result<((List<Term>, List<BinOp>), &'a [Token]), Fault>
+) -> Read<'a, (List<Term>, List<BinOp>)>
     ensures { Gives view_tail result (spec.tail_from types.now room (view_term first) tokens.now) }
 {
     let mut terms = List::new(alloc);
@@ -96,12 +96,7 @@ fn tail_at<'a>(
 
 /// A chain of comparisons, with the line of the first one.
 #[tactic(auto, using(c_syntax::proofs::Equations::pred_laws), unfolding(crate::specs::Read::chain_at))]
-pub fn chain_at<'a>(
-    alloc: Global,
-    types: &[Str],
-    room: u32,
-    tokens: &'a [Token],
-) -> Result<(Pred, &'a [Token]), Fault>
+pub fn chain_at<'a>(alloc: Global, types: &[Str], room: u32, tokens: &'a [Token]) -> Read<'a, Pred>
     ensures { Gives view_pred result (spec.chain_at types.now room tokens.now) }
 {
     let (first, rest) = chain_term_at(alloc, types, room, tokens)?;

@@ -11,7 +11,7 @@ ghost use Rattle.parse_preds.specs.Views.{view_connective};
 
 use crate::next::{Connective, ends_pred};
 use crate::trees::{connected, each_of, same_as, some_of, such_that};
-use c_grammar::Fault;
+use c_grammar::{Fault, Read};
 use c_syntax::{Pred, Term, Token, VarDecl};
 use std::alloc::Global;
 use wp_base::{Line, List, NoMemory, Str};
@@ -124,7 +124,7 @@ pub fn all_closed<'a>(
     opened: Vec<List<Frame>>,
     inside: Pred,
     rest: &'a [Token],
-) -> Result<(Pred, &'a [Token]), Fault>
+) -> Read<'a, Pred>
     ensures { Gives view_pred result (seen_as (spec.around_all opened.items) (if ends_pred_here rest.now then Some (view_pred inside, rest.now) else None)) }
 {
     if !ends_pred(rest) {

@@ -7,11 +7,9 @@ ghost use Rattle.c_syntax.specs.View.{view_pred, view_term, view_var};
 ghost use Rattle.c_syntax.specs.declared.token.Punct.TheVariants as p;
 ghost use Rattle.c_grammar.specs.Reading.{punct_at as punct_of};
 ghost use Rattle.c_grammar.specs.Views.{Gives};
-ghost use Rattle.parse_types.specs.Clauses.{IsOnly, IsSpelled};
-ghost use Rattle.parse_preds.specs.Next.{ends_pred as ends_pred_here};
 ghost use Rattle.parse_preds.specs.Read as spec;
 ghost use Rattle.parse_preds.specs.Parts as part;
-ghost use Rattle.parse_preds.specs.Views.{SpellsSomePred, view_arms, view_form, view_value};
+ghost use Rattle.parse_preds.specs.Views.{view_arms, view_form, view_value};
 
 use crate::atoms::{named_at, separated_at, valid_at, valid_read_at};
 use crate::binders::binders_at;
@@ -19,7 +17,7 @@ use crate::chains::chain_at;
 use crate::next::connective_at;
 use crate::parts::{Frame, Part, all_closed, connected_part, equivalent_part, opened};
 use crate::trees::{always, either_arm, implied_by, negated, never, not_sooner};
-use c_grammar::{Fault, expect, new_name_at, punct_at};
+use c_grammar::{Fault, Read, expect, new_name_at, punct_at};
 use c_syntax::{Pred, Punct, Term, Token, TokenKind, VarDecl, Word};
 use parse_terms::{begins_chain, term_at};
 use std::alloc::Global;
@@ -34,11 +32,7 @@ enum Form {
 }
 
 // The binders of a quantifier, and a semicolon.
-fn bound_at<'a>(
-    alloc: Global,
-    types: &[Str],
-    tokens: &'a [Token],
-) -> Result<(List<VarDecl>, &'a [Token]), Fault>
+fn bound_at<'a>(alloc: Global, types: &[Str], tokens: &'a [Token]) -> Read<'a, List<VarDecl>>
     ensures { Gives (map view_var) result (spec.bound_at types.now tokens.now) }
 {
     let (binders, rest) = binders_at(alloc, types, tokens)?;
@@ -52,7 +46,7 @@ fn value_at<'a>(
     types: &[Str],
     room: u32,
     tokens: &'a [Token],
-) -> Result<((Str, Term), &'a [Token]), Fault>
+) -> Read<'a, (Str, Term)>
     ensures { Gives view_value result (spec.value_at types.now room tokens.now) }
 {
     let ((name, _), rest) = new_name_at(alloc, types, tokens)?;
@@ -63,12 +57,7 @@ fn value_at<'a>(
 }
 
 // What comes behind `\forall`, up to its body.
-fn for_all<'a>(
-    alloc: Global,
-    types: &[Str],
-    line: Line,
-    tokens: &'a [Token],
-) -> Result<(Part, &'a [Token]), Fault>
+fn for_all<'a>(alloc: Global, types: &[Str], line: Line, tokens: &'a [Token]) -> Read<'a, Part>
     ensures { Gives part.view_part result (spec.seen_as (λ xs. part.open_before (r.for_all line xs)) (spec.bound_at types.now tokens.now)) }
 {
     let (binders, rest) = bound_at(alloc, types, tokens)?;
@@ -76,12 +65,7 @@ fn for_all<'a>(
 }
 
 // What comes behind `\exists`, up to its body.
-fn for_some<'a>(
-    alloc: Global,
-    types: &[Str],
-    line: Line,
-    tokens: &'a [Token],
-) -> Result<(Part, &'a [Token]), Fault>
+fn for_some<'a>(alloc: Global, types: &[Str], line: Line, tokens: &'a [Token]) -> Read<'a, Part>
     ensures { Gives part.view_part result (spec.seen_as (λ xs. part.open_before (r.for_some line xs)) (spec.bound_at types.now tokens.now)) }
 {
     let (binders, rest) = bound_at(alloc, types, tokens)?;
@@ -95,7 +79,7 @@ fn let_in<'a>(
     room: u32,
     line: Line,
     tokens: &'a [Token],
-) -> Result<(Part, &'a [Token]), Fault>
+) -> Read<'a, Part>
     ensures { Gives part.view_part result (spec.seen_as (λ x. part.open_before (r.let_in line x.0 x.1)) (spec.value_at types.now room tokens.now)) }
 {
     let ((name, value), rest) = value_at(alloc, types, room, tokens)?;
@@ -111,7 +95,7 @@ fn below<'a>(
     turns: usize,
     form: Form,
     tokens: &'a [Token],
-) -> Result<(Pred, &'a [Token]), Fault>
+) -> Read<'a, Pred>
     ensures { Gives view_pred result (spec.below_at types.now room turns (view_form form) tokens.now) }
 {
     if room == 0 {
@@ -128,7 +112,7 @@ fn enclosed<'a>(
     room: u32,
     turns: usize,
     tokens: &'a [Token],
-) -> Result<(Pred, &'a [Token]), Fault>
+) -> Read<'a, Pred>
     ensures { Gives view_pred result (spec.enclosed (spec.below_at types.now room turns spec.a_whole) tokens.now) }
 {
     let (inside, rest) = below(alloc, types, room, turns, Form::Whole, tokens)?;
@@ -145,7 +129,7 @@ fn old_at<'a>(
     turns: usize,
     line: Line,
     tokens: &'a [Token],
-) -> Result<(Pred, &'a [Token]), Fault>
+) -> Read<'a, Pred>
     ensures { Gives view_pred result (spec.seen_as (r.old line) (spec.bracketed (spec.below_at types.now room turns spec.a_whole) tokens.now)) }
 {
     let (_, rest) = expect(Punct::OpenParen, tokens)?;
@@ -162,7 +146,7 @@ fn atom<'a>(
     room: u32,
     turns: usize,
     tokens: &'a [Token],
-) -> Result<(Pred, &'a [Token]), Fault>
+) -> Read<'a, Pred>
     ensures { Gives view_pred result (spec.atom_at types.now room (spec.below_at types.now room turns spec.a_whole) tokens.now) }
 {
     if begins_chain(types, tokens) {
@@ -193,7 +177,7 @@ fn atom_part<'a>(
     room: u32,
     turns: usize,
     tokens: &'a [Token],
-) -> Result<(Part, &'a [Token]), Fault>
+) -> Read<'a, Part>
     ensures { Gives part.view_part result (spec.seen_as part.ended (spec.atom_at types.now room (spec.below_at types.now room turns spec.a_whole) tokens.now)) }
 {
     let (found, rest) = atom(alloc, types, room, turns, tokens)?;
@@ -209,7 +193,7 @@ fn not_at<'a>(
     turns: usize,
     line: Line,
     tokens: &'a [Token],
-) -> Result<(Part, &'a [Token]), Fault>
+) -> Read<'a, Part>
     ensures { Gives part.view_part result (spec.seen_as (λ a. part.ended (r.not_of line a)) (spec.below_at types.now room turns spec.an_operand tokens.now)) }
 {
     let (inside, rest) = below(alloc, types, room, turns, Form::Operand, tokens)?;
@@ -225,7 +209,7 @@ fn operand<'a>(
     room: u32,
     turns: usize,
     tokens: &'a [Token],
-) -> Result<(Part, &'a [Token]), Fault>
+) -> Read<'a, Part>
     ensures { Gives part.view_part result (part.operand_at types.now room turns tokens.now) }
 {
     let Some((first, rest)) = tokens.split_first() else {
@@ -251,7 +235,7 @@ fn joined<'a>(
     turns: usize,
     level: u32,
     tokens: &'a [Token],
-) -> Result<(Part, &'a [Token]), Fault>
+) -> Read<'a, Part>
     requires { level ≤ 3 }
     ensures { Gives part.view_part result (part.joined_at types.now room turns level tokens.now) }
 {
@@ -276,7 +260,7 @@ fn joined_on<'a>(
     level: u32,
     first: Pred,
     tokens: &'a [Token],
-) -> Result<(Part, &'a [Token]), Fault>
+) -> Read<'a, Part>
     requires least { 1 ≤ level }
     requires most { level ≤ 3 }
     ensures { Gives part.view_part result (part.joined_from types.now room turns level (view_pred first) tokens.now) }
@@ -306,7 +290,7 @@ fn implied_on<'a>(
     turns: usize,
     left: Pred,
     tokens: &'a [Token],
-) -> Result<(Part, &'a [Token]), Fault>
+) -> Read<'a, Part>
     ensures { Gives part.view_part result (part.implies_part (punct_of p.Implies tokens.now) (spec.below_at types.now room turns spec.an_implied) (view_pred left) tokens.now) }
 {
     let Some((line, rest)) = punct_at(Punct::Implies, tokens) else {
@@ -325,7 +309,7 @@ fn implied<'a>(
     room: u32,
     turns: usize,
     tokens: &'a [Token],
-) -> Result<(Part, &'a [Token]), Fault>
+) -> Read<'a, Part>
     ensures { Gives part.view_part result (part.implied_at types.now room turns tokens.now) }
 {
     let (left, rest) = joined(alloc, types, room, turns, 3, tokens)?;
@@ -344,7 +328,7 @@ fn equivalent<'a>(
     room: u32,
     turns: usize,
     tokens: &'a [Token],
-) -> Result<(Part, &'a [Token]), Fault>
+) -> Read<'a, Part>
     ensures { Gives part.view_part result (part.iff_part (part.implied_at types.now room turns) tokens.now) }
 {
     let (first, rest) = implied(alloc, types, room, turns, tokens)?;
@@ -364,7 +348,7 @@ fn equivalent_on<'a>(
     turns: usize,
     first: Pred,
     tokens: &'a [Token],
-) -> Result<(Part, &'a [Token]), Fault>
+) -> Read<'a, Part>
     ensures { Gives part.view_part result (part.iff_from types.now room turns (view_pred first) tokens.now) }
 {
     let mut left = first;
@@ -391,7 +375,7 @@ fn arms<'a>(
     room: u32,
     turns: usize,
     tokens: &'a [Token],
-) -> Result<((Pred, Pred), &'a [Token]), Fault>
+) -> Read<'a, (Pred, Pred)>
     ensures { Gives view_arms result (spec.arms_at (spec.below_at types.now room turns spec.a_whole) tokens.now) }
 {
     let (yes, rest) = below(alloc, types, room, turns, Form::Whole, tokens)?;
@@ -409,7 +393,7 @@ fn conditional<'a>(
     turns: usize,
     test: Pred,
     tokens: &'a [Token],
-) -> Result<(Part, &'a [Token]), Fault>
+) -> Read<'a, Part>
     ensures { Gives part.view_part result (part.cond_part (punct_of p.Question tokens.now) (spec.below_at types.now room turns spec.a_whole) (view_pred test) tokens.now) }
 {
     let Some((line, rest)) = punct_at(Punct::Question, tokens) else {
@@ -428,7 +412,7 @@ fn whole<'a>(
     room: u32,
     turns: usize,
     tokens: &'a [Token],
-) -> Result<(Part, &'a [Token]), Fault>
+) -> Read<'a, Part>
     ensures { Gives part.view_part result (part.whole_at types.now room turns tokens.now) }
 {
     let (test, rest) = equivalent(alloc, types, room, turns, tokens)?;
@@ -447,7 +431,7 @@ fn part_at<'a>(
     turns: usize,
     form: Form,
     tokens: &'a [Token],
-) -> Result<(Part, &'a [Token]), Fault>
+) -> Read<'a, Part>
     ensures { Gives part.view_part result (part.part_at types.now room turns (view_form form) tokens.now) }
 {
     match form {
@@ -468,7 +452,7 @@ fn behind<'a>(
     turns: usize,
     first: List<Frame>,
     tokens: &'a [Token],
-) -> Result<(Pred, &'a [Token]), Fault>
+) -> Read<'a, Pred>
     ensures { Gives view_pred result (part.behind types.now room turns (part.around first) tokens.now) }
 {
     let mut opened = Vec::new(alloc);
@@ -497,7 +481,7 @@ fn complete<'a>(
     turns: usize,
     form: Form,
     tokens: &'a [Token],
-) -> Result<(Pred, &'a [Token]), Fault>
+) -> Read<'a, Pred>
     ensures { Gives view_pred result (spec.form_at types.now room turns (view_form form) tokens.now) }
 {
     let (first, rest) = part_at(alloc, types, room, turns, form, tokens)?;
@@ -507,28 +491,10 @@ fn complete<'a>(
     }
 }
 
+/// A predicate in which so many more forms may open, and the tokens after it.
 #[tactic(auto, unfolding(crate::specs::Read::pred_at))]
-fn read_pred<'a>(
-    alloc: Global,
-    types: &[Str],
-    room: u32,
-    tokens: &'a [Token],
-) -> Result<(Pred, &'a [Token]), Fault>
+pub fn pred_at<'a>(alloc: Global, types: &[Str], room: u32, tokens: &'a [Token]) -> Read<'a, Pred>
     ensures { Gives view_pred result (spec.pred_at types.now room tokens.now) }
 {
     complete(alloc, types, room, tokens.len(), Form::Whole, tokens)
-}
-
-/// A predicate in which so many more forms may open, and the tokens after it.
-pub fn pred_at<'a>(
-    alloc: Global,
-    types: &[Str],
-    room: u32,
-    tokens: &'a [Token],
-) -> Result<(Pred, &'a [Token]), Fault>
-    ensures reads { Gives view_pred result (spec.pred_at types.now room tokens.now) }
-    ensures spelled { IsSpelled (SpellsSomePred types.now room) view_pred tokens.now result }
-    ensures only { IsOnly (SpellsSomePred types.now room) (λ rest. ends_pred_here rest ≡ true) view_pred tokens.now result }
-{
-    read_pred(alloc, types, room, tokens)
 }

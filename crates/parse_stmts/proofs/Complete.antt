@@ -19,7 +19,8 @@ use Rattle.c_grammar.specs.Declarators as d
 use Rattle.c_grammar.specs.Declarators.{SpellsVariables}
 use Rattle.c_grammar.specs.Stmts as g
 use Rattle.c_grammar.specs.Stmts.{SpellsOptional, SpellsFirst, ends_short}
-use Rattle.c_grammar.specs.Reading.{◌>>=◌, punct_at, word_at, keyword_at}
+use Rattle.c_grammar.specs.Reading.{◌>>=◌, punct_at, word_at, keyword_at, annot_close_at}
+use Rattle.c_grammar.proofs.SingleTokens.{first_line_front}
 use Rattle.parse_types.specs.Read.{starts_type}
 use Rattle.parse_exprs.specs.Read.{expr_at, cond_at}
 use Rattle.parse_decls.specs.Read.{variables_at}
@@ -30,7 +31,6 @@ use Rattle.parse_leaf_stmts.specs.Read as parts_of
 use Rattle.parse_stmts.specs.Read as r
 use Rattle.parse_leaf_stmts.specs.Read.{form_of}
 use Rattle.parse_stmts.specs.Read.{Inside}
-use Rattle.parse_stmts.proofs.Tokens.{first_line_front}
 use Rattle.parse_stmts.proofs.Turns.{stmt_is}
 use Rattle.parse_stmts.proofs.Starts.{may_begin, First, expr_first, begins_value, closes, punct_here, no_close, keyed, Begins, keyed_first, value_first}
 
@@ -255,7 +255,7 @@ assertion_complete : (types : Names) → Whole types → (room : ℕ) {xs : List
     → parts_of.assertion_at types room (xs ++ annot_close line' ∷ rest) ≡ Some (tree.assert line a, rest)
 unfolding parts_of.assertion_at
 assertion_complete types whole room {xs} {a} {line} s line' rest =
-    ap (λ o. o >>= λ a. parts_of.annot_close_at a.1 >>= λ x. Some (tree.assert a.0.1 a.0.0, x.1)) (whole.assert_complete room xs (a, line) s line' rest)
+    ap (λ o. o >>= λ a. annot_close_at a.1 >>= λ x. Some (tree.assert a.0.1 a.0.0, x.1)) (whole.assert_complete room xs (a, line) s line' rest)
 
 pub read_assert : (types : Names) → Whole types → (end : ℕ) (loops breaks : Bool) (room at line line' line'' : ℕ) {inside : List Token} {a : Pred} → SpellsAssert types room inside a line
     → ReadsStmt types end loops breaks room at (annot_open line' ∷ (inside ++ annot_close line'' ∷ [])) (tree.assert line a) (line' ∷ [])
@@ -277,5 +277,5 @@ unfolding parts_of.loop_annot_at
 loop_annot_complete types whole room end at {xs} {a} s line rest place =
     let ts = xs ++ annot_close line ∷ rest in
     let within : nat_le (length ts) end ≡ true = grind (arith, nat_tests) in
-    ap (λ b. cond b (loop_at types room end ts >>= λ a. parts_of.annot_close_at a.1 >>= λ x. Some (a.0, x.1)) None) within
-    ∙ ap (λ o. o >>= λ a. parts_of.annot_close_at a.1 >>= λ x. Some (a.0, x.1)) (whole.loop_complete room end at xs a s line rest place)
+    ap (λ b. cond b (loop_at types room end ts >>= λ a. annot_close_at a.1 >>= λ x. Some (a.0, x.1)) None) within
+    ∙ ap (λ o. o >>= λ a. annot_close_at a.1 >>= λ x. Some (a.0, x.1)) (whole.loop_complete room end at xs a s line rest place)

@@ -1,7 +1,6 @@
 -- The reader on lists reads whatever statements the grammar spells.
 use Rattle.std.proofs.Common.{◌≡◌, ℕ, zero, suc, ◌+◌, ◌-◌, ◌≤◌, Bool, true, false, nat_le, ◌&&◌, List, [], ◌∷◌, ◌++◌, length, Option, Some, None, refl, sym, ap, ◌∙◌, subst, arith, append_assoc, append-nil, length-append}
 use Rattle.c_syntax.specs.declared.token.Token.{Token}
-use Rattle.c_syntax.specs.declared.token.TokenKind.TheVariants as k
 use Rattle.c_syntax.specs.declared.token.Punct.TheVariants as p
 use Rattle.c_syntax.specs.declared.token.Word.{Word}
 use Rattle.c_syntax.specs.declared.token.Word.TheVariants as w
@@ -15,13 +14,13 @@ use Rattle.c_grammar.specs.Declarators.{SpellsVariables}
 use Rattle.c_grammar.specs.Stmts as g
 use Rattle.c_grammar.specs.Stmts.{SpellsOptional, SpellsFirst, SpellsLoopAnnot, SpellsStmt, SpellsBody, SpellsBlock, SpellsStmts, SpellsCases, is_block, ends_short, begins_labelled, defaults}
 use Rattle.c_grammar.specs.Reading.{◌>>=◌, punct_at, word_at}
+use Rattle.c_grammar.specs.declared.limits.TheConstants.{MOST_WITHIN, DEEPEST}
+use Rattle.c_grammar.proofs.SingleTokens.{first_line_front}
 use Rattle.parse_exprs.specs.Read.{cond_at}
-use Rattle.parse_leaf_stmts.specs.declared.forms.Form.TheVariants as form
 use Rattle.parse_leaf_stmts.specs.Read as parts_of
 use Rattle.parse_stmts.specs.Read as r
 use Rattle.parse_leaf_stmts.specs.Read.{form_of}
-use Rattle.parse_stmts.specs.Read.{Starting, Body, most_inside}
-use Rattle.parse_stmts.proofs.Tokens.{first_line_front}
+use Rattle.parse_stmts.specs.Read.{Starting, Body}
 use Rattle.parse_stmts.proofs.Turns.{deep_by, deep_annotated, deep_is, stmts_go}
 use Rattle.parse_stmts.proofs.Starts.{stmt_goes, stmt_some, stmt_begun, no_open}
 use Rattle.parse_stmts.proofs.Complete.{Whole, no_type, no_brace_at, no_else_at, variables_some, test_complete, locals_complete, head_complete, do_end_complete, loop_annot_complete, ReadsStmt, read_empty, read_break, read_continue, read_return, read_value, read_assert}
@@ -471,7 +470,7 @@ from_block : (types : Names) → Whole types → (end at room : ℕ) (xs : List 
 unfolding r.block_at
 from_block types whole end at room xs line last ss own full (g.between {room = less} {inside} sss eq) rest place =
     let close' = punct p.CloseBrace last in
-    let same : less ≡ most_inside = omega (arith, full) in
+    let same : less ≡ MOST_WITHIN = omega (arith, full) in
     let all = inside ++ close' ∷ rest in
     let regrouped : xs ++ rest ≡ punct p.OpenBrace line ∷ all = ap (λ l. l ++ rest) eq ∙ ap (λ l. punct p.OpenBrace line ∷ l) (append_assoc inside (close' ∷ []) rest) in
     let reads = subst (λ room. ReadsList (r.item types room false (r.stmt types end room false false)) end (suc at) inside ss own) same (stmts_complete whole end sss) in
@@ -481,4 +480,4 @@ from_block types whole end at room xs line last ss own full (g.between {room = l
 
 pub block_complete : (types : Names) → Whole types → (end at : ℕ) (xs : List Token) (b : Body) → SpellsBlock types false false 200 at xs b.line b.end b.stmts b.starts
     → (rest : List Token) → at + length (xs ++ rest) ≡ end → r.block_at types end (xs ++ rest) ≡ Some (b, rest)
-block_complete types whole end at xs b s rest place = from_block types whole end at 200 xs b.line b.end b.stmts b.starts refl s rest place
+block_complete types whole end at xs b s rest place = from_block types whole end at DEEPEST xs b.line b.end b.stmts b.starts refl s rest place

@@ -1,6 +1,5 @@
 -- The reader of statements reads exactly what is spelled. The crates above cite these laws.
-use Rattle.std.proofs.Common.{◌≡◌, ℕ, ◌+◌, ◌-◌, ◌≤◌, true, false, List, ◌∷◌, ◌++◌, length, Some, Result, Ok, Err, refl, sym, ap, ◌∙◌, arith}
-use Rattle.std.specs.Borrow.{Bor}
+use Rattle.std.proofs.Common.{◌≡◌, ℕ, ◌+◌, ◌-◌, ◌≤◌, true, false, List, ◌∷◌, ◌++◌, length, Some, refl, ap, ◌∙◌, arith}
 use Rattle.c_syntax.specs.declared.token.Token.{Token}
 use Rattle.c_syntax.specs.declared.token.TokenKind.{TokenKind}
 use Rattle.c_syntax.specs.declared.token.TokenKind.TheVariants as k
@@ -8,13 +7,9 @@ use Rattle.c_syntax.specs.declared.token.Word.{Word}
 use Rattle.c_syntax.specs.declared.token.Word.TheVariants as w
 use Rattle.c_syntax.specs.declared.token.Punct.{Punct}
 use Rattle.c_syntax.specs.declared.token.Punct.TheVariants as p
-use Rattle.c_grammar.specs.declared.fault.Fault.{Fault}
-use Rattle.c_grammar.specs.declared.fault.Fault.TheVariants.{Syntax, NoMemory}
 use Rattle.c_grammar.specs.Tokens.{Names, token, punct}
-use Rattle.c_grammar.specs.Views.{Gives}
-use Rattle.c_grammar.proofs.Readers.{Took, pair_is}
+use Rattle.c_grammar.proofs.Readers.{Took}
 use Rattle.parse_types.specs.Read.{starts_type, kind_starts}
-use Rattle.parse_types.specs.Clauses.{IsSpelled, IsRead, IsOnly}
 use Rattle.parse_exprs.specs.Read.{ends_expr}
 use Rattle.parse_exprs.proofs.Laws as exprs
 use Rattle.parse_decls.proofs.Laws as decls
@@ -86,22 +81,10 @@ pub block_complete : (types : Names) → (end at : ℕ) (xs : List Token) (b : B
     → block_at types end (xs ++ rest) ≡ Some (b, rest)
 block_complete types end at xs b s rest place = complete.block_complete types (whole types) end at xs b s rest place
 
--- ---- in the words of the program's call
-
-pub block_spelled : {X : Type 0} (see : X → Body) (types : Names) → (end : ℕ) (ts : List Token) (r : Result (X × Bor (List Token)) Fault) → length ts ≤ end → Gives see r (block_at types end ts)
-    → IsSpelled (SpellsBodyAt types (end - length ts)) see ts r
-block_spelled see types end ts (Ok x) le h = block_sound types end (end - length ts) ts (see x.0) x.1.now (omega (arith, le)) h
-block_spelled see types end ts (Err e) le h = tt
-
-is_read : {X Y : Type 0} (see : X → Y) (y : Y) (rest : List Token) (r : Result (X × Bor (List Token)) Fault) → Gives see r (Some (y, rest)) → IsRead see y rest r
-is_read see y rest (Ok x) h = pair_is (see x.0) y x.1.now rest (sym h)
-is_read see y rest (Err Syntax) h = absurd cc
-is_read see y rest (Err NoMemory) h = tt
-
-pub block_only : {X : Type 0} (see : X → Body) (types : Names) → (end : ℕ) (ts : List Token) (r : Result (X × Bor (List Token)) Fault) → length ts ≤ end → Gives see r (block_at types end ts)
-    → IsOnly (SpellsBodyAt types (end - length ts)) (λ rest. Unit {0}) see ts r
-block_only see types end ts r le h xs b rest is s follows =
+-- the same from the tokens on which it stands
+pub block_there : (types : Names) (end : ℕ) (ts : List Token) → length ts ≤ end → (xs : List Token) (b : Body) (rest : List Token) → ts ≡ xs ++ rest → SpellsBodyAt types (end - length ts) xs b
+    → block_at types end ts ≡ Some (b, rest)
+block_there types end ts le xs b rest is s =
     let at = end - length ts in
     let place : at + length (xs ++ rest) ≡ end = omega (arith, le, ap length is) in
-    let same : block_at types end ts ≡ Some (b, rest) = ap (block_at types end) is ∙ block_complete types end at xs b s rest place in
-    is_read see b rest r (rw same at h)
+    ap (block_at types end) is ∙ block_complete types end at xs b s rest place

@@ -2,7 +2,6 @@
 use Rattle.std.proofs.Common.{◌≡◌, ℕ, zero, suc, ◌+◌, ◌-◌, ◌≤◌, Bool, true, false, List, [], ◌∷◌, ◌++◌, length, Option, Some, None, refl, sym, ap, ◌∙◌, subst, arith, append_assoc, append-nil, length-append}
 use Rattle.c_syntax.specs.declared.token.Token.{Token}
 use Rattle.c_syntax.specs.declared.token.TokenKind.{TokenKind}
-use Rattle.c_syntax.specs.declared.token.TokenKind.TheVariants as k
 use Rattle.c_syntax.specs.declared.token.Punct.{Punct}
 use Rattle.c_syntax.specs.declared.token.Punct.TheVariants as p
 use Rattle.c_syntax.specs.declared.token.Word.TheVariants as w
@@ -17,8 +16,9 @@ use Rattle.c_grammar.specs.Declarators.{SpellsVariables}
 use Rattle.c_grammar.specs.Declarators as d
 use Rattle.c_grammar.specs.Stmts as g
 use Rattle.c_grammar.specs.Stmts.{SpellsOptional, SpellsFirst, SpellsStmt, SpellsStmts, SpellsCases, ends_short}
-use Rattle.c_grammar.specs.Reading.{punct_at, word_at}
+use Rattle.c_grammar.specs.Reading.{punct_at, word_at, annot_close_at}
 use Rattle.c_grammar.proofs.Readers.{bind_ok, got, pair_is, Took, Sound}
+use Rattle.c_grammar.proofs.SingleTokens.{punct_is, close_is, first_line_front}
 use Rattle.parse_types.specs.Read.{starts_type}
 use Rattle.parse_exprs.specs.Read.{expr_at, cond_at}
 use Rattle.parse_decls.specs.Read.{variables_at}
@@ -29,7 +29,7 @@ use Rattle.parse_leaf_stmts.specs.Read as parts_of
 use Rattle.parse_stmts.specs.Read as r
 use Rattle.parse_leaf_stmts.specs.Read.{form_of}
 use Rattle.parse_stmts.specs.Read.{Starting}
-use Rattle.parse_stmts.proofs.Tokens.{punct_is, close_is, first_line_front, Begun, begun}
+use Rattle.parse_stmts.proofs.Tokens.{Begun, begun}
 
 -- what is read in statements is spelled so
 pub record Parts (types : Names) : Type 0 where
@@ -56,7 +56,7 @@ ended_sound types parts room q ts a rest h =
     let y = bind_ok (punct_at q x.0.1) _ (a, rest) x.2 in
     let same = pair_is x.0.0 a y.0.1 rest y.2 in
     let took = parts.expr_sound room ts x.0.0 x.0.1 x.1 in
-    let end = punct_is q x.0.1 y.0 y.1 in
+    let end = punct_is q x.0.1 y.0.0 y.0.1 y.1 in
     record {
       value = took.0;
       line = y.0.0;
@@ -82,7 +82,7 @@ test_sound types parts room ts a rest h =
       line = x.0.0;
       line' = y.line;
       spelled = y.spelled;
-      all = punct_is p.OpenParen ts x.0 x.1 ∙ ap (λ l. punct p.OpenParen x.0.0 ∷ l) y.all;
+      all = punct_is p.OpenParen ts x.0.0 x.0.1 x.1 ∙ ap (λ l. punct p.OpenParen x.0.0 ∷ l) y.all;
     }
 
 -- an expression or none, and this punctuator, at the front
@@ -102,7 +102,7 @@ optional_sound types parts room q ts a rest h =
             value = [];
             line = x.0;
             spelled = subst (SpellsOptional types room []) same.0 g.none;
-            all = punct_is q ts x some ∙ ap (λ l. punct q x.0 ∷ l) same.1;
+            all = punct_is q ts x.0 x.1 some ∙ ap (λ l. punct q x.0 ∷ l) same.1;
           })
       | None ↦ (λ none h.
           let x = bind_ok (parts_of.ended_at types room q ts) _ (a, rest) h in
@@ -182,7 +182,7 @@ first_sound types parts room ts a rest h =
       | Some x ↦ (λ some h.
           let same = pair_is (tree.empty x.0) a x.1 rest h in
           let xs = punct p.Semicolon x.0 ∷ [] in
-          (xs, punct_is p.Semicolon ts x some ∙ ap (λ l. punct p.Semicolon x.0 ∷ l) same.1, subst (SpellsFirst types room xs) same.0 g.nothing))
+          (xs, punct_is p.Semicolon ts x.0 x.1 some ∙ ap (λ l. punct p.Semicolon x.0 ∷ l) same.1, subst (SpellsFirst types room xs) same.0 g.nothing))
       | None ↦ (λ none h.
           elim (starts_type types ts) as (λ b. parts_of.first_by None b (parts_of.locals_at types room ts) (parts_of.value_at types room ts) ≡ Some (a, rest) → Took (SpellsFirst types room) ts a rest) [
             | true ↦ (λ h.
@@ -212,7 +212,7 @@ jump_sound false made ts a rest h = absurd cc
 jump_sound true made ts a rest h =
     let x = bind_ok (punct_at p.Semicolon ts) _ (a, rest) h in
     let same = pair_is made a x.0.1 rest x.2 in
-    (refl, x.0.0, same.0, punct_is p.Semicolon ts x.0 x.1 ∙ ap (λ l. punct p.Semicolon x.0.0 ∷ l) same.1)
+    (refl, x.0.0, same.0, punct_is p.Semicolon ts x.0.0 x.0.1 x.1 ∙ ap (λ l. punct p.Semicolon x.0.0 ∷ l) same.1)
 
 break_sound : (types : Names) (loops breaks : Bool) (room line : ℕ) (ts : List Token) (a : tree.Stmt) (rest : List Token) → parts_of.break_at breaks line ts ≡ Some (a, rest)
     → Alone types loops breaks room (word w.Break line ∷ ts) a rest
@@ -307,7 +307,7 @@ pub assertion_sound : (types : Names) → Parts types → (loops breaks : Bool) 
 unfolding parts_of.assertion_at
 assertion_sound types parts loops breaks room line ts a rest h =
     let x = bind_ok (assert_at types room ts) _ (a, rest) h in
-    let y = bind_ok (parts_of.annot_close_at x.0.1) _ (a, rest) x.2 in
+    let y = bind_ok (annot_close_at x.0.1) _ (a, rest) x.2 in
     let same = pair_is (tree.assert x.0.0.1 x.0.0.0) a y.0.1 rest y.2 in
     let took = parts.assert_sound room ts x.0.0 x.0.1 x.1 in
     let end = annot_close y.0.0 in
@@ -316,7 +316,7 @@ assertion_sound types parts loops breaks room line ts a rest h =
       tokens = xs;
       spelled = λ at. subst (λ a. SpellsStmt types loops breaks room at xs a (line ∷ [])) same.0 (g.assert line y.0.0 took.2 refl);
       all = ap (λ l. annot_open line ∷ l)
-          (took.1 ∙ ap (λ l. took.0 ++ l) (close_is x.0.1 y.0 y.1 ∙ ap (λ l. end ∷ l) same.1) ∙ sym (append_assoc took.0 (end ∷ []) rest));
+          (took.1 ∙ ap (λ l. took.0 ++ l) (close_is x.0.1 y.0.0 y.0.1 y.1 ∙ ap (λ l. end ∷ l) same.1) ∙ sym (append_assoc took.0 (end ∷ []) rest));
       whole = subst (λ a. ends_short a ≡ false) same.0 refl;
     }
 
@@ -391,7 +391,7 @@ stmts_sound I S lists end one sound (suc turns) at starts ts b rest place h =
             tokens = [];
             own = [];
             spelled = lists.none at;
-            all = punct_is p.CloseBrace ts x some ∙ ap (λ l. punct p.CloseBrace x.0 ∷ l) same.1;
+            all = punct_is p.CloseBrace ts x.0 x.1 some ∙ ap (λ l. punct p.CloseBrace x.0 ∷ l) same.1;
             begins = sym (append-nil starts);
           }))
       | None ↦ (λ none h.

@@ -2,7 +2,6 @@
 use Rattle.std.proofs.Common.{◌≡◌, ℕ, suc, ◌+◌, ◌-◌, Bool, true, false, ⊎_elim, List, [], ◌∷◌, ◌++◌, length, Option, Some, None, refl, sym, ap, ◌∙◌, subst, arith, append_assoc, append-nil, length-append}
 use Rattle.std.proofs.lemmas.Bool.{cases_Bool}
 use Rattle.c_syntax.specs.declared.token.Token.{Token}
-use Rattle.c_syntax.specs.declared.token.TokenKind.TheVariants as k
 use Rattle.c_syntax.specs.declared.token.Punct.TheVariants as p
 use Rattle.c_syntax.specs.declared.token.Word.TheVariants as w
 use Rattle.c_syntax.specs.Expr as ex
@@ -12,13 +11,12 @@ use Rattle.c_grammar.specs.Stmts as g
 use Rattle.c_grammar.specs.Stmts.{SpellsStmt, SpellsBody, SpellsBlock, SpellsStmts, is_block, ends_short}
 use Rattle.c_grammar.specs.Reading.{punct_at, word_at}
 use Rattle.c_grammar.proofs.Readers.{bind_ok, pair_is}
+use Rattle.c_grammar.proofs.SingleTokens.{punct_is, word_is}
 use Rattle.parse_types.specs.Read.{starts_type}
 use Rattle.parse_exprs.specs.Read.{cond_at}
-use Rattle.parse_leaf_stmts.specs.declared.forms.Form.TheVariants as form
 use Rattle.parse_leaf_stmts.specs.Read as parts_of
 use Rattle.parse_stmts.specs.Read as r
 use Rattle.parse_stmts.specs.Read.{Starting}
-use Rattle.parse_stmts.proofs.Tokens.{punct_is, word_is}
 use Rattle.parse_stmts.proofs.Sound as so
 use Rattle.parse_stmts.proofs.Sound.{Parts, Tested, test_sound, locals_sound, At, SoundFor, at_map, with_starts, never_short, beside_is, stmts_sound, InBlock, blocks, InSwitch}
 
@@ -65,7 +63,7 @@ case_sound types parts loops room at line starts ts x rest h =
       own = [];
       spelled = subst (λ a. InSwitch types loops room at xs a []) same.0 (so.case_label c.0.0 took.2);
       all = ap (λ l. word w.Case line ∷ l)
-          (took.1 ∙ ap (λ l. took.0 ++ l) (punct_is p.Colon a.0.1 c.0 c.1 ∙ ap (λ l. colon ∷ l) same.1) ∙ sym (append_assoc took.0 (colon ∷ []) rest));
+          (took.1 ∙ ap (λ l. took.0 ++ l) (punct_is p.Colon a.0.1 c.0.0 c.0.1 c.1 ∙ ap (λ l. colon ∷ l) same.1) ∙ sym (append_assoc took.0 (colon ∷ []) rest));
       begins = sym (append-nil starts);
       taken = λ t. never_short y.0 (subst (λ a. ends_short a ≡ false) same.0 refl) t;
     })
@@ -82,7 +80,7 @@ default_sound types loops room at line starts ts x rest h =
       tokens = xs;
       own = [];
       spelled = subst (λ a. InSwitch types loops room at xs a []) same.0 (so.default_label c.0.0);
-      all = ap (λ l. word w.Default line ∷ l) (punct_is p.Colon ts c.0 c.1 ∙ ap (λ l. punct p.Colon c.0.0 ∷ l) same.1);
+      all = ap (λ l. word w.Default line ∷ l) (punct_is p.Colon ts c.0.0 c.0.1 c.1 ∙ ap (λ l. punct p.Colon c.0.0 ∷ l) same.1);
       begins = sym (append-nil starts);
       taken = λ t. never_short y.0 (subst (λ a. ends_short a ≡ false) same.0 refl) t;
     })
@@ -93,11 +91,11 @@ unfolding r.item
 switch_item_sound types parts end loops room inner sound at starts ts x rest place h =
     elim (word_at w.Case ts) as (λ o. word_at w.Case ts ≡ o → r.case_by o (word_at w.Default ts) types room starts (inner starts ts) ≡ Some (x, rest) → At (InSwitch types loops room at) starts ts x rest) [
       | Some c ↦ (λ some h.
-          subst (λ ts. At (InSwitch types loops room at) starts ts x rest) (sym (word_is w.Case ts c some)) (case_sound types parts loops room at c.0 starts c.1 x rest h))
+          subst (λ ts. At (InSwitch types loops room at) starts ts x rest) (sym (word_is w.Case ts c.0 c.1 some)) (case_sound types parts loops room at c.0 starts c.1 x rest h))
       | None ↦ (λ none h.
           elim (word_at w.Default ts) as (λ o. word_at w.Default ts ≡ o → r.case_by None o types room starts (inner starts ts) ≡ Some (x, rest) → At (InSwitch types loops room at) starts ts x rest) [
             | Some c ↦ (λ some h.
-                subst (λ ts. At (InSwitch types loops room at) starts ts x rest) (sym (word_is w.Default ts c some)) (default_sound types loops room at c.0 starts c.1 x rest h))
+                subst (λ ts. At (InSwitch types loops room at) starts ts x rest) (sym (word_is w.Default ts c.0 c.1 some)) (default_sound types loops room at c.0 starts c.1 x rest h))
             | None ↦ (λ none h. at_map (SpellsStmt types loops true room at) (InSwitch types loops room at) starts ts x rest (λ xs a own s. so.statement s) (sound at starts ts x rest place h))
           ]
           refl h)
@@ -164,7 +162,7 @@ unfolding r.body
 body_sound types parts end loops breaks room inner sound at starts ts x rest place h =
     elim (punct_at p.OpenBrace ts) as (λ o. punct_at p.OpenBrace ts ≡ o → r.body_by o (r.item types room false inner) inner starts ts ≡ Some (x, rest) → At (SpellsBody types loops breaks (suc room) at) starts ts x rest) [
       | Some o ↦ (λ some h.
-          let starts' = punct_is p.OpenBrace ts o some in
+          let starts' = punct_is p.OpenBrace ts o.0 o.1 some in
           let long = ap length starts' in
           let y = braces_sound types parts end loops breaks room inner sound at o.0 (starts ++ o.0 ∷ []) o.1 x rest (omega (arith, place, long)) h in
           subst (λ ts. At (SpellsBody types loops breaks (suc room) at) starts ts x rest) (sym starts')
@@ -237,7 +235,7 @@ with_else types loops breaks room at line starts ts test a after x o some b rest
       own = line ∷ (x.first.own ++ y.own);
       spelled = g.if_else x.tested.line x.tested.line' o.0 x.tested.spelled x.first.spelled (closed (ends_short a.0) after o x.first.taken some) y.spelled refl;
       all = ap (λ l. word w.If line ∷ l) (x.tested.all ∙ ap (λ l. open' ∷ l)
-          (ap (λ l. value ++ close' ∷ l) (x.first.all ∙ ap (λ l. one ++ l) (word_is w.Else after o some ∙ ap (λ l. els ∷ l) y.all)) ∙ regrouped));
+          (ap (λ l. value ++ close' ∷ l) (x.first.all ∙ ap (λ l. one ++ l) (word_is w.Else after o.0 o.1 some ∙ ap (λ l. els ∷ l) y.all)) ∙ regrouped));
       begins = y.begins ∙ ap (λ l. l ++ y.own) x.first.begins ∙ grouped;
       taken = y.taken;
     }
@@ -270,7 +268,7 @@ choice_sound types parts end loops breaks room inner sound at line starts ts x r
       | Some q ↦ (λ some other left h.
           let b = bind_ok (r.body types room inner a.0.0.1 q.1) _ (other, left) h in
           let same' = pair_is (with_other (Some b.0.0.0) b.0.0.1) other b.0.1 left b.2 in
-          let behind' = ap length (word_is w.Else a.0.1 q some) in
+          let behind' = ap length (word_is w.Else a.0.1 q.0 q.1 some) in
           let second = body_sound types parts end loops breaks room inner sound (at + length tested.value + length first.tokens + 4) a.0.0.1 q.1 b.0.0 b.0.1
           (omega (arith, place, long, parts', long', parts'', behind')) b.1 in
           let y = with_else types loops breaks room at line starts ts e.0.0 a.0.0 a.0.1 both q some b.0.0 b.0.1 second in

@@ -12,16 +12,18 @@ use Rattle.c_grammar.specs.Tokens.{Names, token, punct, word, annot_open, annot_
 use Rattle.c_grammar.specs.Annots.{SpellsLoop, loop_of}
 use Rattle.c_grammar.specs.Stmts as g
 use Rattle.c_grammar.specs.Stmts.{SpellsOptional, SpellsFirst, SpellsLoopAnnot, SpellsStmt, SpellsBlock, SpellsStmts, SpellsCases, begins_labelled, defaults}
-use Rattle.c_grammar.specs.Reading.{◌>>=◌, punct_at, word_at, keyword_at}
+use Rattle.c_grammar.specs.Reading.{◌>>=◌, punct_at, word_at, keyword_at, annot_close_at}
 use Rattle.c_grammar.proofs.Readers.{bind_ok, pair_is, Took}
+use Rattle.c_grammar.specs.declared.limits.TheConstants.{MOST_WITHIN, DEEPEST}
+use Rattle.c_grammar.proofs.SingleTokens.{punct_is, word_is, close_is, first_line_front}
 use Rattle.acsl_parser.specs.Read.{loop_at}
 use Rattle.parse_leaf_stmts.specs.declared.forms.Form.{Form}
 use Rattle.parse_leaf_stmts.specs.declared.forms.Form.TheVariants as form
 use Rattle.parse_leaf_stmts.specs.Read as parts_of
 use Rattle.parse_stmts.specs.Read as r
 use Rattle.parse_leaf_stmts.specs.Read.{form_of}
-use Rattle.parse_stmts.specs.Read.{Starting, Inside, Body, body_of, most_inside}
-use Rattle.parse_stmts.proofs.Tokens.{punct_is, word_is, close_is, first_line_front, Begun, begun}
+use Rattle.parse_stmts.specs.Read.{Starting, Inside, Body, body_of}
+use Rattle.parse_stmts.proofs.Tokens.{Begun, begun}
 use Rattle.parse_stmts.proofs.Turns.{deep_by, deep_annotated, deep_is}
 use Rattle.parse_stmts.proofs.Sound.{Parts, Tested, test_sound, optional_sound, first_sound, plain_sound, assertion_sound, At, SoundFor, with_starts, alone_at, stmts_sound, InBlock, blocks, InSwitch, cases}
 use Rattle.parse_stmts.proofs.SoundForms.{pushed, block_item_sound, switch_item_sound, braces_sound, braces_at, body_sound, choice_sound}
@@ -82,9 +84,9 @@ do_end_sound types parts room ts test rest h =
     let e = bind_ok (parts_of.test_at types room x.0.1) _ (test, rest) x.2 in
     let y = bind_ok (punct_at p.Semicolon e.0.1) _ (test, rest) e.2 in
     let same = pair_is e.0.0 test y.0.1 rest y.2 in
-    let semi = punct_is p.Semicolon e.0.1 y.0 y.1 ∙ ap (λ l. punct p.Semicolon y.0.0 ∷ l) same.1 in
+    let semi = punct_is p.Semicolon e.0.1 y.0.0 y.0.1 y.1 ∙ ap (λ l. punct p.Semicolon y.0.0 ∷ l) same.1 in
     let read = subst (λ a. Tested types room x.0.1 a (punct p.Semicolon y.0.0 ∷ rest)) same.0 (subst (Tested types room x.0.1 e.0.0) semi (test_sound types parts room x.0.1 e.0.0 e.0.1 e.1)) in
-    record { line = y.0.0; tested' = x.0.1; tested = read; while_line = x.0.0; all = word_is w.While ts x.0 x.1 }
+    record { line = y.0.0; tested' = x.0.1; tested = read; while_line = x.0.0; all = word_is w.While ts x.0.0 x.0.1 x.1 }
 
 do_sound : (types : Names) → Parts types → (end : ℕ) (loops breaks : Bool) (room : ℕ) (inner : Starting tree.Stmt) → SoundFor end (SpellsStmt types true true room) inner
     → (at : ℕ) (before : List Token) (annot : LoopAnnot) → SpellsLoopAnnot types (suc room) at before annot
@@ -162,7 +164,7 @@ head_sound types parts room ts x rest h =
       first_spelled = first.2;
       test_spelled = test.spelled;
       next_spelled = next.spelled;
-      all = punct_is p.OpenParen ts o.0 o.1
+      all = punct_is p.OpenParen ts o.0.0 o.0.1 o.1
           ∙ ap (λ l. open' ∷ l) (first.1 ∙ ap (λ l. first.0 ++ l) (test.all ∙ ap (λ l. test.value ++ semi ∷ l) (next.all ∙ ap (λ l. next.value ++ close' ∷ l) same.1)));
     })
 
@@ -259,7 +261,7 @@ switch_sound types parts end loops breaks room inner sound at line starts ts x r
     let fits = both_true (begins_labelled b.0.0.0) (nat_le (defaults b.0.0.0) 1) last.0 in
     let tested = test_sound types parts room ts e.0.0 e.0.1 e.1 in
     let value = tested.value in
-    let brace = punct_is p.OpenBrace e.0.1 o.0 o.1 in
+    let brace = punct_is p.OpenBrace e.0.1 o.0.0 o.0.1 o.1 in
     let long = ap length tested.all in
     let long' = length-append value (punct p.CloseParen tested.line' ∷ e.0.1) in
     let long'' = ap length brace in
@@ -293,7 +295,7 @@ record LoopAnnotAt (types : Names) (room at line : ℕ) (ts : List Token) (a : L
 
 -- the annotation that was read, and its end
 abbrev closed_annot : Option (LoopAnnot × List Token) → Option (LoopAnnot × List Token)
-closed_annot o = o >>= λ a. parts_of.annot_close_at a.1 >>= λ x. Some (a.0, x.1)
+closed_annot o = o >>= λ a. annot_close_at a.1 >>= λ x. Some (a.0, x.1)
 
 loop_annot_sound : (types : Names) → Parts types → (room end at line : ℕ) (ts : List Token) (a : LoopAnnot) (rest : List Token) → suc at + length ts ≡ end → parts_of.loop_annot_at types room end ts ≡ Some (a, rest)
     → LoopAnnotAt types room at line ts a rest
@@ -302,7 +304,7 @@ loop_annot_sound types parts room end at line ts a rest place h =
     let within : nat_le (length ts) end ≡ true = grind (arith, nat_tests) in
     let h' = subst (λ b. cond b (closed_annot (loop_at types room end ts)) None ≡ Some (a, rest)) within h in
     let x = bind_ok (loop_at types room end ts) _ (a, rest) h' in
-    let y = bind_ok (parts_of.annot_close_at x.0.1) _ (a, rest) x.2 in
+    let y = bind_ok (annot_close_at x.0.1) _ (a, rest) x.2 in
     let same = pair_is x.0.0 a y.0.1 rest y.2 in
     let took = parts.loop_sound room end ts x.0.0 x.0.1 (omega (arith, place)) x.1 in
     let close' = annot_close y.0.0 in
@@ -312,7 +314,7 @@ loop_annot_sound types parts room end at line ts a rest place h =
       spelled = subst (SpellsLoopAnnot types room at (annot_open line ∷ (took.0 ++ close' ∷ []))) same.0
           (g.annotated line y.0.0 (subst (λ at. SpellsLoop types room at took.0 x.0.0) here took.2) refl);
       all = ap (λ l. annot_open line ∷ l)
-          (took.1 ∙ ap (λ l. took.0 ++ l) (close_is x.0.1 y.0 y.1 ∙ ap (λ l. close' ∷ l) same.1) ∙ sym (append_assoc took.0 (close' ∷ []) rest));
+          (took.1 ∙ ap (λ l. took.0 ++ l) (close_is x.0.1 y.0.0 y.0.1 y.1 ∙ ap (λ l. close' ∷ l) same.1) ∙ sym (append_assoc took.0 (close' ∷ []) rest));
       first = refl;
       some = omega arith;
     }
@@ -408,23 +410,23 @@ stmt_sound types parts end (suc room) loops breaks at starts (t ∷ ts) x rest p
 -- ---- the body of a function
 
 pub block_sound : (types : Names) → Parts types → (end at : ℕ) (ts : List Token) (b : Body) (rest : List Token) → at + length ts ≡ end → r.block_at types end ts ≡ Some (b, rest)
-    → Took (λ xs b. SpellsBlock types false false 200 at xs b.line b.end b.stmts b.starts) ts b rest
+    → Took (λ xs b. SpellsBlock types false false DEEPEST at xs b.line b.end b.stmts b.starts) ts b rest
 unfolding r.block_at
 block_sound types parts end at ts b rest place h =
     let o = bind_ok (punct_at p.OpenBrace ts) _ (b, rest) h in
-    let inner = r.stmt types end most_inside false false in
-    let y = bind_ok (r.stmts (r.item types most_inside false inner) (length o.0.1) [] o.0.1) _ (b, rest) o.2 in
+    let inner = r.stmt types end MOST_WITHIN false false in
+    let y = bind_ok (r.stmts (r.item types MOST_WITHIN false inner) (length o.0.1) [] o.0.1) _ (b, rest) o.2 in
     let same = pair_is (body_of o.0.0 y.0.0) b y.0.1 rest y.2 in
-    let brace = punct_is p.OpenBrace ts o.0 o.1 in
+    let brace = punct_is p.OpenBrace ts o.0.0 o.0.1 o.1 in
     let long = ap length brace in
-    let z = stmts_sound (InBlock types false false most_inside) (SpellsStmts types false false most_inside) (blocks types false false most_inside) end (r.item types most_inside false inner)
-    (block_item_sound types parts end false false most_inside inner (stmt_sound types parts end most_inside false false)) (length o.0.1) (suc at) [] o.0.1 y.0.0 y.0.1 (omega (arith, place, long)) y.1 in
+    let z = stmts_sound (InBlock types false false MOST_WITHIN) (SpellsStmts types false false MOST_WITHIN) (blocks types false false MOST_WITHIN) end (r.item types MOST_WITHIN false inner)
+    (block_item_sound types parts end false false MOST_WITHIN inner (stmt_sound types parts end MOST_WITHIN false false)) (length o.0.1) (suc at) [] o.0.1 y.0.0 y.0.1 (omega (arith, place, long)) y.1 in
     let open' = punct p.OpenBrace o.0.0 in
     let close' = punct p.CloseBrace y.0.0.1 in
     let xs = open' ∷ (z.tokens ++ close' ∷ []) in
-    let spelled : SpellsBlock types false false 200 at xs o.0.0 y.0.0.1 y.0.0.0 y.0.0.2 =
-    subst (SpellsBlock types false false 200 at xs o.0.0 y.0.0.1 y.0.0.0) (sym z.begins) (g.between z.spelled refl) in (
+    let spelled : SpellsBlock types false false DEEPEST at xs o.0.0 y.0.0.1 y.0.0.0 y.0.0.2 =
+    subst (SpellsBlock types false false DEEPEST at xs o.0.0 y.0.0.1 y.0.0.0) (sym z.begins) (g.between z.spelled refl) in (
       xs,
       brace ∙ ap (λ l. open' ∷ l) (z.all ∙ ap (λ l. z.tokens ++ close' ∷ l) same.1 ∙ sym (append_assoc z.tokens (close' ∷ []) rest)),
-      subst (λ (b : Body). SpellsBlock types false false 200 at xs b.line b.end b.stmts b.starts) same.0 spelled,
+      subst (λ (b : Body). SpellsBlock types false false DEEPEST at xs b.line b.end b.stmts b.starts) same.0 spelled,
     )

@@ -1,3 +1,4 @@
 pub mod Read
 pub mod Views
 pub mod Spelled
+pub mod Exactness

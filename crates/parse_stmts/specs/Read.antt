@@ -10,6 +10,7 @@ use Rattle.c_syntax.specs.Contract.{LoopAnnot}
 use Rattle.c_grammar.specs.Tokens.{Names, first_line}
 use Rattle.c_grammar.specs.Annots.{loop_of}
 use Rattle.c_grammar.specs.Reading.{Reader, ◌>>=◌, punct_at, word_at, keyword_at}
+use Rattle.c_grammar.specs.declared.limits.TheConstants.{MOST_WITHIN}
 use Rattle.parse_types.specs.Read.{starts_type}
 use Rattle.parse_leaf_stmts.specs.declared.forms.Form.{Form}
 use Rattle.parse_leaf_stmts.specs.declared.forms.Form.TheVariants as form
@@ -166,11 +167,7 @@ pub record Body : Type 0 where
 abbrev pub body_of : (line : ℕ) → s.Stmts × ℕ × List ℕ → Body
 body_of line b = record { stmts = b.0; line = line; end = b.1; starts = b.2 }
 
--- the room in the braces of a function
-abbrev pub most_inside : ℕ
-most_inside = 199
-
 unfoldable pub block_at : Names → (end : ℕ) → Reader Body
 block_at types end ts =
-    punct_at p.OpenBrace ts >>= λ x. stmts (item types most_inside false (stmt types end most_inside false false)) (length x.1) [] x.1 >>= λ b.
+    punct_at p.OpenBrace ts >>= λ x. stmts (item types MOST_WITHIN false (stmt types end MOST_WITHIN false false)) (length x.1) [] x.1 >>= λ b.
     Some (body_of x.0 b.0, b.1)

@@ -2,6 +2,8 @@
 #![tactic(auto)]
 
 mod blocks;
+mod exact;
 mod stmts;
 
 pub use blocks::{Body, block_at};
+pub use exact::block_is_exact;

@@ -1,16 +1,16 @@
 // Statements, and the blocks that they make.
-ghost use Rattle.std.specs.Prelude.{◌≤◌, ◌-◌, true, false, length};
+ghost use Rattle.std.specs.Prelude.{◌-◌, true, false, length};
 ghost use Rattle.c_grammar.specs.Views.{Gives};
 ghost use Rattle.c_syntax.specs.View.{view_loop};
 ghost use Rattle.parse_stmts.specs.Read as spec;
 ghost use Rattle.parse_stmts.specs.Views.{other_with, stmt_with, stmts_with};
 
-use c_grammar::{Fault, expect, keyword_at, punct_at, word_at};
+use c_grammar::{Fault, Read, expect, first_line, keyword_at, punct_at, word_at};
 use c_syntax::{LoopAnnot, Punct, Stmt, Token, Word};
 use parse_leaf_stmts::{
-    Around, Form, assertion_at, block_of, case_at, default_at, do_end_at, do_of, first_line,
-    for_of, form_of, head_at, if_of, is_switch, locals_at, loop_annot_at, no_annot, plain_at,
-    switch_of, test_at, while_of,
+    Around, Form, assertion_at, block_of, case_at, default_at, do_end_at, do_of, for_of, form_of,
+    head_at, if_of, is_switch, locals_at, loop_annot_at, no_annot, plain_at, switch_of, test_at,
+    while_of,
 };
 use parse_types::starts_type;
 use std::alloc::Global;
@@ -27,8 +27,7 @@ fn item<'a>(
     room: u32,
     starts: &mut List<Line>,
     tokens: &'a [Token],
-) -> Result<(Stmt, &'a [Token]), Fault>
-    requires { room ≤ 200 }
+) -> Read<'a, Stmt>
     ensures { Gives (stmt_with starts.new) result (spec.item types.now room cases (spec.stmt types.now around.end room around.loops around.breaks) starts.old tokens.now) }
 {
     if cases {
@@ -58,8 +57,7 @@ pub fn stmts<'a>(
     room: u32,
     starts: &mut List<Line>,
     tokens: &'a [Token],
-) -> Result<((List<Stmt>, Line), &'a [Token]), Fault>
-    requires { room ≤ 200 }
+) -> Read<'a, (List<Stmt>, Line)>
     ensures { Gives (stmts_with starts.new) result (spec.stmts (spec.item types.now room cases (spec.stmt types.now around.end room around.loops around.breaks)) (length tokens.now) starts.old tokens.now) }
 {
     let mut items = List::new(alloc);
@@ -86,8 +84,7 @@ fn braces<'a>(
     line: Line,
     starts: &mut List<Line>,
     tokens: &'a [Token],
-) -> Result<(Stmt, &'a [Token]), Fault>
-    requires { room ≤ 200 }
+) -> Read<'a, Stmt>
     ensures { Gives (stmt_with starts.new) result (spec.braces (spec.item types.now room false (spec.stmt types.now around.end room around.loops around.breaks)) line starts.old tokens.now) }
 {
     let ((items, _), rest) = stmts(alloc, types, around, false, room, starts, tokens)?;
@@ -104,8 +101,7 @@ fn body<'a>(
     room: u32,
     starts: &mut List<Line>,
     tokens: &'a [Token],
-) -> Result<(Stmt, &'a [Token]), Fault>
-    requires { room ≤ 200 }
+) -> Read<'a, Stmt>
     ensures { Gives (stmt_with starts.new) result (spec.body types.now room (spec.stmt types.now around.end room around.loops around.breaks) starts.old tokens.now) }
 {
     match punct_at(Punct::OpenBrace, tokens) {
@@ -127,8 +123,7 @@ fn otherwise<'a>(
     room: u32,
     starts: &mut List<Line>,
     tokens: &'a [Token],
-) -> Result<(Option<Boxed<Stmt>>, &'a [Token]), Fault>
-    requires { room ≤ 200 }
+) -> Read<'a, Option<Boxed<Stmt>>>
     ensures { Gives (other_with starts.new) result (spec.otherwise types.now room (spec.stmt types.now around.end room around.loops around.breaks) starts.old tokens.now) }
 {
     match word_at(Word::Else, tokens) {
@@ -151,8 +146,7 @@ fn choice<'a>(
     line: Line,
     starts: &mut List<Line>,
     tokens: &'a [Token],
-) -> Result<(Stmt, &'a [Token]), Fault>
-    requires { room ≤ 200 }
+) -> Read<'a, Stmt>
     ensures { Gives (stmt_with starts.new) result (spec.choice types.now room (spec.stmt types.now around.end room around.loops around.breaks) line starts.old tokens.now) }
 {
     let (test, rest) = test_at(alloc, types, room, tokens)?;
@@ -173,8 +167,7 @@ fn while_loop<'a>(
     line: Line,
     starts: &mut List<Line>,
     tokens: &'a [Token],
-) -> Result<(Stmt, &'a [Token]), Fault>
-    requires { room ≤ 200 }
+) -> Read<'a, Stmt>
     ensures { Gives (stmt_with starts.new) result (spec.while_of types.now room (spec.stmt types.now around.end room around.loops around.breaks) (view_loop annot) line starts.old tokens.now) }
 {
     let (test, rest) = test_at(alloc, types, room, tokens)?;
@@ -194,8 +187,7 @@ fn do_loop<'a>(
     line: Line,
     starts: &mut List<Line>,
     tokens: &'a [Token],
-) -> Result<(Stmt, &'a [Token]), Fault>
-    requires { room ≤ 200 }
+) -> Read<'a, Stmt>
     ensures { Gives (stmt_with starts.new) result (spec.do_of types.now room (spec.stmt types.now around.end room around.loops around.breaks) (view_loop annot) line starts.old tokens.now) }
 {
     let (inside, rest) = body(alloc, types, around, room, starts, tokens)?;
@@ -215,8 +207,7 @@ fn for_loop<'a>(
     line: Line,
     starts: &mut List<Line>,
     tokens: &'a [Token],
-) -> Result<(Stmt, &'a [Token]), Fault>
-    requires { room ≤ 200 }
+) -> Read<'a, Stmt>
     ensures { Gives (stmt_with starts.new) result (spec.for_of types.now room (spec.stmt types.now around.end room around.loops around.breaks) (view_loop annot) line starts.old tokens.now) }
 {
     let (head, rest) = head_at(alloc, types, room, tokens)?;
@@ -235,8 +226,7 @@ fn looped<'a>(
     annot: LoopAnnot,
     starts: &mut List<Line>,
     tokens: &'a [Token],
-) -> Result<(Stmt, &'a [Token]), Fault>
-    requires { room ≤ 200 }
+) -> Read<'a, Stmt>
     ensures { Gives (stmt_with starts.new) result (spec.looped types.now room (spec.stmt types.now around.end room true true) (view_loop annot) starts.old tokens.now) }
 {
     let Some((first, rest)) = tokens.split_first() else {
@@ -267,8 +257,7 @@ fn switch<'a>(
     line: Line,
     starts: &mut List<Line>,
     tokens: &'a [Token],
-) -> Result<(Stmt, &'a [Token]), Fault>
-    requires { room ≤ 200 }
+) -> Read<'a, Stmt>
     ensures { Gives (stmt_with starts.new) result (spec.switch_of types.now room (spec.stmt types.now around.end room around.loops true) line starts.old tokens.now) }
 {
     let inside = Around {
@@ -295,8 +284,7 @@ fn annotated<'a>(
     room: u32,
     starts: &mut List<Line>,
     tokens: &'a [Token],
-) -> Result<(Stmt, &'a [Token]), Fault>
-    requires { room ≤ 200 }
+) -> Read<'a, Stmt>
     ensures { Gives (stmt_with starts.new) result (spec.annotated types.now around.end room (spec.stmt types.now around.end (room - 1)) starts.old tokens.now) }
 {
     const ASSERT: &[u8] = b"assert";
@@ -319,8 +307,7 @@ fn started<'a>(
     room: u32,
     starts: &mut List<Line>,
     tokens: &'a [Token],
-) -> Result<(Stmt, &'a [Token]), Fault>
-    requires { room ≤ 200 }
+) -> Read<'a, Stmt>
     ensures { Gives (stmt_with starts.new) result (spec.started types.now around.end room (spec.stmt types.now around.end (room - 1)) around.loops around.breaks starts.old tokens.now) }
 {
     let Some((first, rest)) = tokens.split_first() else {
@@ -361,8 +348,7 @@ fn stmt<'a>(
     room: u32,
     starts: &mut List<Line>,
     tokens: &'a [Token],
-) -> Result<(Stmt, &'a [Token]), Fault>
-    requires { room ≤ 200 }
+) -> Read<'a, Stmt>
     ensures { Gives (stmt_with starts.new) result (spec.stmt types.now around.end room around.loops around.breaks starts.old tokens.now) }
 {
     let Some((first, _)) = tokens.split_first() else {

@@ -20,6 +20,7 @@ use Rattle.c_grammar.specs.Terms as g
 use Rattle.c_grammar.specs.Terms.{Place, anywhere, in_set, in_chain, inside_of, term_unop_of}
 use Rattle.c_grammar.specs.Reading.{Reader, ◌>>=◌, punct_at}
 use Rattle.c_grammar.proofs.Levels.{Ends, Reads, reads_all, flat, looser_to, reads_binary}
+use Rattle.c_grammar.specs.ListReaders.{more_separated}
 use Rattle.parse_types.specs.Read.{starts_type, ends_type_name}
 use Rattle.parse_types.proofs.Laws.{type_name_complete, type_name_starts}
 use Rattle.parse_terms.specs.declared.tokens.Selector.{Selector}
@@ -152,24 +153,24 @@ closed_reads read xs line a rest h = ap (λ ts. r.closed (read ts)) (append_asso
 abbrev pub EndsList : List Token → Type 0
 EndsList ts = Follows ts × (punct_at p.Comma ts ≡ None)
 
-terms_stop : (one : Reader t.Term) (turns : ℕ) (ts : List Token) → punct_at p.Comma ts ≡ None → r.more_terms one turns ts ≡ Some ([], ts)
-unfolding r.more_terms
+terms_stop : (one : Reader t.Term) (turns : ℕ) (ts : List Token) → punct_at p.Comma ts ≡ None → more_separated one turns ts ≡ Some ([], ts)
+unfolding more_separated
 terms_stop one zero ts h = refl
 terms_stop one (suc turns) ts h = rw h refl
 
 -- a list of terms whose first was read
 abbrev behind : (one : Reader t.Term) → (turns : ℕ) → Reader (List t.Term)
-behind one turns ts = one ts >>= λ a. r.more_terms one turns a.1 >>= λ as'. Some (a.0 ∷ as'.0, as'.1)
+behind one turns ts = one ts >>= λ a. more_separated one turns a.1 >>= λ as'. Some (a.0 ∷ as'.0, as'.1)
 
 one_read : (one : Reader t.Term) (turns : ℕ) (xs : List Token) (a : t.Term) (rest : List Token) → one (xs ++ rest) ≡ Some (a, rest) → punct_at p.Comma rest ≡ None → behind one turns (xs ++ rest) ≡ Some (a ∷ [], rest)
 one_read one turns xs a rest h ends = rw (h, terms_stop one turns rest ends) refl
 
 more_read : (one : Reader t.Term) (turns line : ℕ) (first others : List Token) (a : t.Term) (as' : List t.Term) (rest : List Token) → one (first ++ punct p.Comma line ∷ (others ++ rest)) ≡ Some (a, punct p.Comma line ∷ (others ++ rest))
     → behind one turns (others ++ rest) ≡ Some (as', rest) → behind one (suc turns) ((first ++ punct p.Comma line ∷ others) ++ rest) ≡ Some (a ∷ as', rest)
-unfolding r.more_terms
+unfolding more_separated
 more_read one turns line first others a as' rest h more =
     ap (behind one (suc turns)) (append_assoc first (punct p.Comma line ∷ others) rest)
-    ∙ ap (λ o. o >>= λ a. r.more_terms one (suc turns) a.1 >>= λ as'. Some (a.0 ∷ as'.0, as'.1)) h
+    ∙ ap (λ o. o >>= λ a. more_separated one (suc turns) a.1 >>= λ as'. Some (a.0 ∷ as'.0, as'.1)) h
     ∙ ap (λ o. o >>= λ as'. Some (a ∷ as'.0, as'.1)) more
 
 args_closed : (types : Names) (one : Reader t.Term) (line : ℕ) (xs rest : List Token) (as' : List t.Term) → First types (xs ++ punct p.CloseParen line ∷ rest)
@@ -458,10 +459,10 @@ list_terms (t.more a args) = ap (t.more a) (list_terms args)
 -- a list of terms of which the first is read here
 list_read : (one : Reader t.Term) (line : ℕ) (first others : List Token) (a : t.Term) (as' : List t.Term) (rest : List Token) → one (first ++ punct p.Comma line ∷ (others ++ rest)) ≡ Some (a, punct p.Comma line ∷ (others ++ rest))
     → behind one (length (others ++ rest)) (others ++ rest) ≡ Some (as', rest) → r.terms_by one ((first ++ punct p.Comma line ∷ others) ++ rest) ≡ Some (a ∷ as', rest)
-unfolding r.more_terms
+unfolding more_separated
 list_read one line first others a as' rest h more =
     ap (r.terms_by one) (append_assoc first (punct p.Comma line ∷ others) rest)
-    ∙ ap (λ o. o >>= λ a. r.more_terms one (length a.1) a.1 >>= λ as'. Some (a.0 ∷ as'.0, as'.1)) h
+    ∙ ap (λ o. o >>= λ a. more_separated one (length a.1) a.1 >>= λ as'. Some (a.0 ∷ as'.0, as'.1)) h
     ∙ ap (λ o. o >>= λ as'. Some (a ∷ as'.0, as'.1)) more
 
 single_read : (one : Reader t.Term) (xs : List Token) (a : t.Term) (rest : List Token) → one (xs ++ rest) ≡ Some (a, rest) → punct_at p.Comma rest ≡ None → r.terms_by one (xs ++ rest) ≡ Some (a ∷ [], rest)

@@ -10,15 +10,9 @@ use Rattle.c_grammar.specs.Tokens.{Names}
 use Rattle.c_grammar.specs.Terms.{Place, inside_of}
 use Rattle.c_grammar.specs.Reading.{Reader, ◌>>=◌, nothing, punct_at, chain, levels}
 use Rattle.c_grammar.specs.Views.{Gives}
+use Rattle.c_grammar.proofs.Readers.{gives_fault}
 use Rattle.parse_terms.specs.declared.tokens.Selector.{Selector}
-use Rattle.parse_terms.specs.Read.{Part, operands, wholes, groups, Readers, Args, read, inner, inner_args, over, operand, term, group, primary, postfix, parts, selected, selector_at, more_terms, args_at, choice}
-use Rattle.parse_terms.specs.Views.{with_items}
-
--- a fault of a part is that of the whole
-pub gives_fault : {X Y Z W : Type 0} (see : X → Y) (see' : Z → W) (read : Option (Y × List Token)) (f : Y × List Token → Option (W × List Token)) (e : Fault)
-    → Gives see (Err e) read → Gives see' (Err e) (read >>= f)
-gives_fault see see' read f Syntax h = rw h refl
-gives_fault see see' read f NoMemory h = tt
+use Rattle.parse_terms.specs.Read.{Part, operands, wholes, groups, Readers, Args, read, inner, inner_args, over, operand, term, group, primary, postfix, parts, selected, selector_at, args_at, choice}
 
 -- ---- room
 
@@ -90,46 +84,6 @@ group_is types room place ts =
     let same = ap (λ (r : Readers). r wholes place) (read_is types room) in
     whole ∙ ap (λ (p : Reader t.Term). group place p (inner types room wholes (inside_of place)) ts) (sym same)
 
--- ---- levels
-
-pub levels_zero : {X O : Type 0} (make : O → ℕ → X → X → X) (operator : ℕ → Reader (O × ℕ)) (n : ℕ) (p : Reader X) (ts : List Token) → n ≡ 0 → levels make operator n p ts ≡ p ts
-unfolding levels
-levels_zero make operator n p ts e = rw e refl
-
-pub levels_more : {X O : Type 0} (make : O → ℕ → X → X → X) (operator : ℕ → Reader (O × ℕ)) (n : ℕ) (p : Reader X) (ts : List Token) → 1 ≤ n
-    → levels make operator n p ts ≡ (levels make operator (n - 1) p ts >>= λ a. chain make (operator n) (levels make operator (n - 1) p) (length a.1) a.0 a.1)
-unfolding levels
-levels_more make operator zero p ts le = absurd (omega arith)
-levels_more make operator (suc n) p ts le =
-    let e : n ≡ suc n - 1 = omega arith in
-    ap (λ m. levels make operator m p ts >>= λ a. chain make (operator (suc n)) (levels make operator m p) (length a.1) a.0 a.1) e
-
-pub chain_ends : {X O : Type 0} (make : O → ℕ → X → X → X) (operator : Reader (O × ℕ)) (turns : ℕ) (p : Reader X) (a : X) (ts : List Token) → turns ≡ 0 → chain make operator p turns a ts ≡ Some (a, ts)
-unfolding chain
-chain_ends make operator turns p a ts e = rw e refl
-
-pub chain_stops : {X O : Type 0} (make : O → ℕ → X → X → X) (operator : Reader (O × ℕ)) (turns : ℕ) (p : Reader X) (a : X) (ts : List Token) → operator ts ≡ None → chain make operator p turns a ts ≡ Some (a, ts)
-unfolding chain
-chain_stops make operator zero p a ts e = refl
-chain_stops make operator (suc turns) p a ts e = rw e refl
-
-pub chain_goes : {X O : Type 0} (make : O → ℕ → X → X → X) (operator : Reader (O × ℕ)) (turns turns' : ℕ) (p : Reader X) (a : X) (ts : List Token) (op : O) (line : ℕ) (after : List Token) → turns ≡ turns' + 1
-    → operator ts ≡ Some ((op, line), after) → chain make operator p turns a ts ≡ (p after >>= λ b. chain make operator p turns' (make op line a b.0) b.1)
-unfolding chain
-chain_goes make operator turns turns' p a ts op line after e found = rw (e, add-one, found) refl
-
-pub chain_turn : {X O : Type 0} (make : O → ℕ → X → X → X) (operator : Reader (O × ℕ)) (turns turns' : ℕ) (p : Reader X) (a b made : X) (ts : List Token) (op : O) (line : ℕ) (after rest : List Token) → turns ≡ turns' + 1
-    → operator ts ≡ Some ((op, line), after) → p after ≡ Some (b, rest) → made ≡ make op line a b → chain make operator p turns' made rest ≡ chain make operator p turns a ts
-chain_turn make operator turns turns' p a b made ts op line after rest e found read same =
-    ap (λ made. chain make operator p turns' made rest) same
-    ∙ sym (chain_goes make operator turns turns' p a ts op line after e found ∙ ap (λ x. x >>= λ b. chain make operator p turns' (make op line a b.0) b.1) read)
-
--- the same where the operand is at fault
-pub chain_fault : {X Y O : Type 0} (see : Y → X) (make : O → ℕ → X → X → X) (operator : Reader (O × ℕ)) (turns turns' : ℕ) (p : Reader X) (a : X) (ts : List Token) (op : O) (line : ℕ) (after : List Token) (e : Fault)
-    → turns ≡ turns' + 1 → operator ts ≡ Some ((op, line), after) → Gives see (Err e) (p after) → Gives see (Err e) (chain make operator p turns a ts)
-chain_fault see make operator turns turns' p a ts op line after e eq found h =
-    rw (chain_goes make operator turns turns' p a ts op line after eq found) (gives_fault see see (p after) _ e h)
-
 -- ---- parts
 
 pub postfix_is : (types : Names) (place : Place) (args : Reader (List t.Term)) (inner group : Reader t.Term) (ts : List Token)
@@ -160,42 +114,6 @@ pub parts_fault : {Y : Type 0} (see : Y → t.Term) (place : Place) (inner : Rea
     → turns ≡ turns' + 1 → selector_at ts ≡ Some ((s, line), after) → Gives see (Err e) (selected place inner s line a after) → Gives see (Err e) (parts place inner turns a ts)
 parts_fault see place inner turns turns' a ts s line after e eq found h =
     rw (parts_go place inner turns turns' a ts s line after eq found) (gives_fault see see (selected place inner s line a after) _ e h)
-
--- ---- lists of terms
-
-pub terms_end : (one : Reader t.Term) (turns : ℕ) (as' : List t.Term) (ts : List Token) → turns ≡ 0 → with_items as' (more_terms one turns ts) ≡ Some (as', ts)
-unfolding more_terms
-terms_end one turns as' ts e = rw (e, append-nil) refl
-
-pub terms_stop : (one : Reader t.Term) (turns : ℕ) (as' : List t.Term) (ts : List Token) → punct_at p.Comma ts ≡ None → with_items as' (more_terms one turns ts) ≡ Some (as', ts)
-unfolding more_terms
-terms_stop one zero as' ts e = rw append-nil refl
-terms_stop one (suc turns) as' ts e = rw (e, append-nil) refl
-
-terms_go : (one : Reader t.Term) (turns turns' line : ℕ) (ts after : List Token) → turns ≡ turns' + 1 → punct_at p.Comma ts ≡ Some (line, after)
-    → more_terms one turns ts ≡ (one after >>= λ a. more_terms one turns' a.1 >>= λ as'. Some (a.0 ∷ as'.0, as'.1))
-unfolding more_terms
-terms_go one turns turns' line ts after e found = rw (e, add-one, found) refl
-
-with_items-after : {X : Type 0} (x : X) (xs : List X) (given : Option (List X × List Token)) → with_items (xs ++ x ∷ []) given ≡ with_items xs (given >>= λ y. Some (x ∷ y.0, y.1))
-with_items-after x xs None = refl
-with_items-after {X} x xs (Some y) = ap (λ (all : List X). Some (all, y.1)) (append_assoc xs (x ∷ []) y.0)
-
-pub terms_turn : (one : Reader t.Term) (turns turns' line : ℕ) (as' : List t.Term) (a : t.Term) (ts after rest : List Token) → turns ≡ turns' + 1 → punct_at p.Comma ts ≡ Some (line, after)
-    → one after ≡ Some (a, rest) → with_items (as' ++ a ∷ []) (more_terms one turns' rest) ≡ with_items as' (more_terms one turns ts)
-terms_turn one turns turns' line as' a ts after rest e found read =
-    with_items-after a as' (more_terms one turns' rest)
-    ∙ sym (ap (with_items as') (terms_go one turns turns' line ts after e found ∙ ap (λ y. y >>= λ a. more_terms one turns' a.1 >>= λ as'. Some (a.0 ∷ as'.0, as'.1)) read))
-
-pub terms_fault : {X Z : Type 0} (see : X → t.Term) (see' : Z → List t.Term) (one : Reader t.Term) (turns turns' line : ℕ) (as' : List t.Term) (ts after : List Token) (e : Fault)
-    → turns ≡ turns' + 1 → punct_at p.Comma ts ≡ Some (line, after) → Gives see (Err e) (one after) → Gives see' (Err e) (with_items as' (more_terms one turns ts))
-terms_fault see see' one turns turns' line as' ts after Syntax eq found h = rw (terms_go one turns turns' line ts after eq found, h) refl
-terms_fault see see' one turns turns' line as' ts after NoMemory eq found h = tt
-
--- one term before others
-pub with_first : (a : t.Term) (given : Option (List t.Term × List Token)) → with_items (a ∷ []) given ≡ (given >>= λ as'. Some (a ∷ as'.0, as'.1))
-with_first a None = refl
-with_first a (Some x) = refl
 
 -- ---- choices
 

@@ -19,8 +19,9 @@ use Rattle.c_grammar.specs.Terms.{Place, anywhere, in_set, in_chain, inside_of, 
 use Rattle.c_grammar.specs.Reading.{Reader, nothing, punct_at, name_at, levels}
 use Rattle.c_grammar.proofs.Readers.{Took, Sound, bind_ok, guard_ok, got, pair_is}
 use Rattle.c_grammar.proofs.Levels.{Joins, levels_sound}
+use Rattle.c_grammar.proofs.SingleTokens.{punct_is, name_is}
+use Rattle.c_grammar.specs.ListReaders.{more_separated, separated_go}
 use Rattle.parse_types.specs.Read.{starts_type, type_name_at}
-use Rattle.parse_types.proofs.Tokens.{punct_is, name_is}
 use Rattle.parse_types.proofs.Laws.{type_name_sound}
 use Rattle.parse_terms.specs.declared.tokens.Selector.{Selector}
 use Rattle.parse_terms.specs.declared.tokens.Selector.TheVariants as selector
@@ -164,15 +165,15 @@ no_more types place room first a s ts as' rest h =
     ([], same.1, subst (λ as'. g.SpellsSomeTerms types place room (first ++ []) (t.more a (t.terms_of as'))) same.0 (g.one_term (subst (λ l. g.SpellsTerm types place room l a) (sym (append-nil first)) s)))
 
 more_sound : (types : Names) (place : Place) (room : ℕ) (one : Reader t.Term) → Sound (g.SpellsTerm types place room) one → (turns : ℕ) (first : List Token) (a : t.Term) → g.SpellsTerm types place room first a
-    → (ts : List Token) (as' : List t.Term) (rest : List Token) → r.more_terms one turns ts ≡ Some (as', rest) → MoreTerms types place room first ts a as' rest
-unfolding r.more_terms
+    → (ts : List Token) (as' : List t.Term) (rest : List Token) → more_separated one turns ts ≡ Some (as', rest) → MoreTerms types place room first ts a as' rest
+unfolding more_separated
 more_sound types place room one sound zero first a s ts as' rest h = no_more types place room first a s ts as' rest h
 more_sound types place room one sound (suc turns) first a s ts as' rest h =
-    elim (punct_at p.Comma ts) as (λ o. punct_at p.Comma ts ≡ o → r.listed o ts one (r.more_terms one turns) ≡ Some (as', rest) → MoreTerms types place room first ts a as' rest) [
+    elim (punct_at p.Comma ts) as (λ o. punct_at p.Comma ts ≡ o → separated_go one o ts (more_separated one turns) ≡ Some (as', rest) → MoreTerms types place room first ts a as' rest) [
       | None ↦ (λ none h. no_more types place room first a s ts as' rest h)
       | Some comma ↦ (λ some h.
           let b = bind_ok (one comma.1) _ (as', rest) h in
-          let bs = bind_ok (r.more_terms one turns b.0.1) _ (as', rest) b.2 in
+          let bs = bind_ok (more_separated one turns b.0.1) _ (as', rest) b.2 in
           let same = pair_is (b.0.0 ∷ bs.0.0) as' bs.0.1 rest bs.2 in
           let right = sound comma.1 b.0.0 b.0.1 b.1 in
           let more = more_sound types place room one sound turns right.0 b.0.0 right.2 b.0.1 bs.0.0 bs.0.1 bs.1 in
@@ -191,7 +192,7 @@ SpellsList types place room xs as' = g.SpellsSomeTerms types place room xs (t.te
 pub terms_sound : (types : Names) (place : Place) (room : ℕ) (one : Reader t.Term) → Sound (g.SpellsTerm types place room) one → Sound (SpellsList types place room) (r.terms_by one)
 terms_sound types place room one sound ts as' rest h =
     let a = bind_ok (one ts) _ (as', rest) h in
-    let bs = bind_ok (r.more_terms one (length a.0.1) a.0.1) _ (as', rest) a.2 in
+    let bs = bind_ok (more_separated one (length a.0.1) a.0.1) _ (as', rest) a.2 in
     let same = pair_is (a.0.0 ∷ bs.0.0) as' bs.0.1 rest bs.2 in
     let first = sound ts a.0.0 a.0.1 a.1 in
     let more = more_sound types place room one sound (length a.0.1) first.0 a.0.0 first.2 a.0.1 bs.0.0 bs.0.1 bs.1 in (

@@ -14,6 +14,7 @@ use Rattle.c_grammar.specs.Tokens.{Names, is_type, token}
 use Rattle.c_grammar.specs.Operators.{binop_of, level, loosest, shift_level}
 use Rattle.c_grammar.specs.Terms.{Place, anywhere, in_set, in_chain, inside_of, term_unop_of, is_entry}
 use Rattle.c_grammar.specs.Reading.{Reader, ◌>>=◌, nothing, punct_at, name_at, levels, past}
+use Rattle.c_grammar.specs.ListReaders.{more_separated}
 use Rattle.parse_types.specs.Read.{starts_type, type_name_at}
 use Rattle.parse_terms.specs.declared.tokens.Selector.{Selector}
 use Rattle.parse_terms.specs.declared.tokens.Selector.TheVariants as selector
@@ -89,19 +90,9 @@ selector_at (t ∷ ts) = selector_by t.line t.kind ts
 
 -- ---- lists of terms
 
--- goes on after a comma, or stops before what is none
-abbrev pub listed : Option (ℕ × List Token) → List Token → Reader t.Term → Reader (List t.Term) → Option (List t.Term × List Token)
-listed None ts one go = Some ([], ts)
-listed (Some comma) ts one go = one comma.1 >>= λ a. go a.1 >>= λ as'. Some (a.0 ∷ as'.0, as'.1)
-
--- more terms, each after a comma, at most so many
-unfoldable pub more_terms : Reader t.Term → (turns : ℕ) → Reader (List t.Term)
-more_terms one zero ts = Some ([], ts)
-more_terms one (suc turns) ts = listed (punct_at p.Comma ts) ts one (more_terms one turns)
-
 -- term {"," term}
 abbrev pub terms_by : Reader t.Term → Reader (List t.Term)
-terms_by one ts = one ts >>= λ a. more_terms one (length a.1) a.1 >>= λ as'. Some (a.0 ∷ as'.0, as'.1)
+terms_by one ts = one ts >>= λ a. more_separated one (length a.1) a.1 >>= λ as'. Some (a.0 ∷ as'.0, as'.1)
 
 -- up to a closing parenthesis
 abbrev pub closed : {X : Type 0} → Option (X × List Token) → Option (X × List Token)

@@ -1,11 +1,8 @@
 -- What the code's values are in the grammar.
-use Rattle.std.specs.Prelude.{List, ◌++◌, Option, Some}
-use Rattle.c_syntax.specs.declared.token.Token.{Token}
 use Rattle.c_syntax.specs.declared.token.TokenKind.{TokenKind}
 use Rattle.c_syntax.specs.declared.token.TokenKind.TheVariants as k
 use Rattle.c_syntax.specs.declared.token.Punct.TheVariants as p
 use Rattle.c_grammar.specs.Terms as g
-use Rattle.c_grammar.specs.Reading.{◌>>=◌}
 use Rattle.parse_terms.specs.declared.place.Place.{Place}
 use Rattle.parse_terms.specs.declared.place.Place.TheVariants as place
 use Rattle.parse_terms.specs.declared.past.Side.{Side}
@@ -15,10 +12,6 @@ abbrev pub view_place : Place → g.Place
 view_place place.Anywhere = g.anywhere
 view_place place.InSet = g.in_set
 view_place place.InChain = g.in_chain
-
--- these, and then those that are read
-abbrev pub with_items : {X : Type 0} → List X → Option (List X × List Token) → Option (List X × List Token)
-with_items xs given = given >>= λ x. Some (xs ++ x.0, x.1)
 
 -- what a token is to the brackets around it
 abbrev pub side_of : TokenKind → Side

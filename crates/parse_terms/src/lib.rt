@@ -4,6 +4,7 @@
 
 mod chains;
 mod entries;
+mod exact;
 mod nodes;
 mod past;
 mod place;
@@ -12,5 +13,8 @@ mod terms;
 mod tokens;
 
 pub use chains::{begins_chain, continues};
+pub use exact::{
+    chain_term_is_exact, entry_is_exact, pointer_is_exact, some_terms_are_exact, term_is_exact,
+};
 pub use past::past_at;
 pub use terms::{chain_term_at, entry_at, pointer_at, some_terms_at, term_at};

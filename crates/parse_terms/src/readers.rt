@@ -3,21 +3,19 @@ ghost use Rattle.std.specs.Prelude.{◌≡◌, ◌≤◌, ◌-◌, length, map};
 ghost use Rattle.c_grammar.specs.Reading.{chain, levels, punct_at};
 ghost use Rattle.c_grammar.specs.Terms.{inside_of};
 ghost use Rattle.c_grammar.specs.Views.{Gives};
+ghost use Rattle.c_grammar.specs.ListReaders.{more_separated, with_items};
 ghost use Rattle.c_syntax.specs.View.{view_term};
 ghost use Rattle.parse_terms.specs.Read as spec;
-ghost use Rattle.parse_terms.specs.Views.{view_place, with_items};
+ghost use Rattle.parse_terms.specs.Views.{view_place};
 
 use crate::nodes;
 use crate::place::Place;
 use crate::tokens::{Selector, cast_at, operator, prefix_at, range_at, selector_at};
-use c_grammar::{Fault, expect, is_type, name_at, punct_at};
+use c_grammar::{Fault, LOOSEST, Read, expect, is_type, name_at, punct_at};
 use c_syntax::{BinOp, Punct, Term, TermNode, Token, TokenKind, UnOp, Word};
 use parse_types::type_name_at;
 use std::alloc::Global;
 use wp_base::{Line, List, Str};
-
-// The loosest level of the operators.
-const LOOSEST: u32 = 10;
 
 // A term in a form that opens here.
 #[cycle(terms)]
@@ -28,7 +26,7 @@ fn inner_term<'a>(
     place: Place,
     room: u32,
     tokens: &'a [Token],
-) -> Result<(Term, &'a [Token]), Fault>
+) -> Read<'a, Term>
     ensures { Gives view_term result (spec.inner types.now room spec.wholes (view_place place) tokens.now) }
 {
     if room == 0 {
@@ -46,7 +44,7 @@ fn inner_operand<'a>(
     place: Place,
     room: u32,
     tokens: &'a [Token],
-) -> Result<(Term, &'a [Token]), Fault>
+) -> Read<'a, Term>
     ensures { Gives view_term result (spec.inner types.now room spec.operands (view_place place) tokens.now) }
 {
     if room == 0 {
@@ -64,7 +62,7 @@ fn inner_group<'a>(
     place: Place,
     room: u32,
     tokens: &'a [Token],
-) -> Result<(Term, &'a [Token]), Fault>
+) -> Read<'a, Term>
     ensures { Gives view_term result (spec.inner types.now room spec.groups (view_place place) tokens.now) }
 {
     if room == 0 {
@@ -84,7 +82,7 @@ pub fn spread_term<'a>(
     place: Place,
     room: u32,
     tokens: &'a [Token],
-) -> Result<(Term, &'a [Token]), Fault>
+) -> Read<'a, Term>
     ensures { Gives view_term result (spec.spread_term (spec.read types.now room spec.wholes (view_place place)) (spec.inner types.now room spec.wholes (inside_of (view_place place))) tokens.now) }
 {
     let (base, rest) = term(alloc, types, place, room, tokens)?;
@@ -104,7 +102,7 @@ fn spread<'a>(
     base: Term,
     line: Line,
     tokens: &'a [Token],
-) -> Result<(Term, &'a [Token]), Fault>
+) -> Read<'a, Term>
     ensures { Gives view_term result (spec.spread (spec.inner types.now room spec.wholes (inside_of (view_place place))) (view_term base) line tokens.now) }
 {
     let (offsets, rest) = bounds(alloc, types, place.inside(), room, tokens)?;
@@ -120,7 +118,7 @@ fn bounds<'a>(
     place: Place,
     room: u32,
     tokens: &'a [Token],
-) -> Result<(Term, &'a [Token]), Fault>
+) -> Read<'a, Term>
     ensures { Gives view_term result (spec.bounds (spec.inner types.now room spec.wholes (view_place place)) tokens.now) }
 {
     let (_, rest) = expect(Punct::OpenParen, tokens)?;
@@ -141,7 +139,7 @@ pub fn term<'a>(
     place: Place,
     room: u32,
     tokens: &'a [Token],
-) -> Result<(Term, &'a [Token]), Fault>
+) -> Read<'a, Term>
     ensures { Gives view_term result (spec.read types.now room spec.wholes (view_place place) tokens.now) }
 {
     let (test, rest) = binary(alloc, types, place, room, LOOSEST, tokens)?;
@@ -161,7 +159,7 @@ fn choice<'a>(
     test: Term,
     line: Line,
     tokens: &'a [Token],
-) -> Result<(Term, &'a [Token]), Fault>
+) -> Read<'a, Term>
     ensures { Gives view_term result (spec.choice (spec.inner types.now room spec.wholes (view_place place)) (view_term test) line tokens.now) }
 {
     let (first, rest) = inner_term(alloc, types, place, room, tokens)?;
@@ -173,7 +171,7 @@ fn choice<'a>(
 
 /// Operators up to the level.
 #[cycle(terms)]
-#[tactic(auto, using(crate::proofs::Reading::levels_zero, crate::proofs::Reading::levels_more))]
+#[tactic(auto, using(c_grammar::proofs::Chains::levels_zero, c_grammar::proofs::Chains::levels_more))]
 pub fn binary<'a>(
     alloc: Global,
     types: &[Str],
@@ -181,7 +179,7 @@ pub fn binary<'a>(
     room: u32,
     level: u32,
     tokens: &'a [Token],
-) -> Result<(Term, &'a [Token]), Fault>
+) -> Read<'a, Term>
     requires { level ≤ 10 }
     ensures { Gives view_term result (levels spec.joined spec.operator level (spec.read types.now room spec.operands (view_place place)) tokens.now) }
 {
@@ -194,7 +192,7 @@ pub fn binary<'a>(
 
 // More operands of the level.
 #[cycle(terms)]
-#[tactic(auto, using(crate::proofs::Reading::chain_ends, crate::proofs::Reading::chain_stops))]
+#[tactic(auto, using(c_grammar::proofs::Chains::chain_ends, c_grammar::proofs::Chains::chain_stops))]
 fn operators<'a>(
     alloc: Global,
     types: &[Str],
@@ -203,7 +201,7 @@ fn operators<'a>(
     level: u32,
     first: Term,
     tokens: &'a [Token],
-) -> Result<(Term, &'a [Token]), Fault>
+) -> Read<'a, Term>
     requires least { 1 ≤ level }
     requires most { level ≤ 10 }
     ensures { Gives view_term result (chain spec.joined (spec.operator level) (levels spec.joined spec.operator (level - 1) (spec.read types.now room spec.operands (view_place place))) (length tokens.now) (view_term first) tokens.now) }
@@ -230,7 +228,7 @@ fn operand<'a>(
     place: Place,
     room: u32,
     tokens: &'a [Token],
-) -> Result<(Term, &'a [Token]), Fault>
+) -> Read<'a, Term>
     ensures { Gives view_term result (spec.read types.now room spec.operands (view_place place) tokens.now) }
 {
     if let Some(((op, line), rest)) = prefix_at(place, tokens) {
@@ -251,7 +249,7 @@ fn prefixed<'a>(
     op: UnOp,
     line: Line,
     tokens: &'a [Token],
-) -> Result<(Term, &'a [Token]), Fault>
+) -> Read<'a, Term>
     ensures { Gives view_term result (spec.prefixed (spec.inner types.now room spec.operands (view_place place)) op line tokens.now) }
 {
     let (of, rest) = inner_operand(alloc, types, place, room, tokens)?;
@@ -268,7 +266,7 @@ fn cast<'a>(
     room: u32,
     line: Line,
     tokens: &'a [Token],
-) -> Result<(Term, &'a [Token]), Fault>
+) -> Read<'a, Term>
     ensures { Gives view_term result (spec.cast types.now (spec.inner types.now room spec.operands (view_place place)) line tokens.now) }
 {
     let (ty, rest) = type_name_at(alloc, types, tokens)?;
@@ -287,7 +285,7 @@ fn postfix<'a>(
     place: Place,
     room: u32,
     tokens: &'a [Token],
-) -> Result<(Term, &'a [Token]), Fault>
+) -> Read<'a, Term>
     ensures { Gives view_term result (spec.postfix types.now (view_place place) (spec.inner_args types.now room (inside_of (view_place place))) (spec.inner types.now room spec.wholes (inside_of (view_place place))) (spec.inner types.now room spec.groups (inside_of (view_place place))) tokens.now) }
 {
     let (first, rest) = primary(alloc, types, place, room, tokens)?;
@@ -304,7 +302,7 @@ fn parts<'a>(
     room: u32,
     first: Term,
     tokens: &'a [Token],
-) -> Result<(Term, &'a [Token]), Fault>
+) -> Read<'a, Term>
     ensures { Gives view_term result (spec.parts (view_place place) (spec.inner types.now room spec.wholes (inside_of (view_place place))) (length tokens.now) (view_term first) tokens.now) }
 {
     let mut part = first;
@@ -330,7 +328,7 @@ fn selected<'a>(
     line: Line,
     base: Term,
     tokens: &'a [Token],
-) -> Result<(Term, &'a [Token]), Fault>
+) -> Read<'a, Term>
     ensures { Gives view_term result (spec.selected (view_place place) (spec.inner types.now room spec.wholes (inside_of (view_place place))) selector line (view_term base) tokens.now) }
 {
     match selector {
@@ -344,13 +342,7 @@ fn selected<'a>(
     }
 }
 
-fn field(
-    alloc: Global,
-    line: Line,
-    base: Term,
-    arrow: bool,
-    tokens: &[Token],
-) -> Result<(Term, &[Token]), Fault>
+fn field(alloc: Global, line: Line, base: Term, arrow: bool, tokens: &[Token]) -> Read<'_, Term>
     ensures { Gives view_term result (spec.field_at arrow line (view_term base) tokens.now) }
 {
     let ((name, _), rest) = name_at(alloc, tokens)?;
@@ -366,7 +358,7 @@ fn offset<'a>(
     place: Place,
     room: u32,
     tokens: &'a [Token],
-) -> Result<(Term, &'a [Token]), Fault>
+) -> Read<'a, Term>
     ensures { Gives view_term result (spec.offset_at (view_place place) (spec.inner types.now room spec.wholes (inside_of (view_place place))) tokens.now) }
 {
     let (low, rest) = inner_term(alloc, types, place.inside(), room, tokens)?;
@@ -387,7 +379,7 @@ fn primary<'a>(
     place: Place,
     room: u32,
     tokens: &'a [Token],
-) -> Result<(Term, &'a [Token]), Fault>
+) -> Read<'a, Term>
     ensures { Gives view_term result (spec.primary types.now (spec.inner_args types.now room (inside_of (view_place place))) (spec.inner types.now room spec.wholes (inside_of (view_place place))) (spec.inner types.now room spec.groups (inside_of (view_place place))) tokens.now) }
 {
     let Some((first, rest)) = tokens.split_first() else {
@@ -425,7 +417,7 @@ fn named<'a>(
     name: &Str,
     line: Line,
     tokens: &'a [Token],
-) -> Result<(Term, &'a [Token]), Fault>
+) -> Read<'a, Term>
     ensures { Gives view_term result (spec.named types.now name.now line (spec.inner_args types.now room (inside_of (view_place place))) tokens.now) }
 {
     if is_type(types, name) {
@@ -448,7 +440,7 @@ fn args<'a>(
     place: Place,
     room: u32,
     tokens: &'a [Token],
-) -> Result<(List<Term>, &'a [Token]), Fault>
+) -> Read<'a, List<Term>>
     ensures { Gives (map view_term) result (spec.inner_args types.now room (view_place place) tokens.now) }
 {
     if room == 0 {
@@ -470,7 +462,7 @@ pub fn terms<'a>(
     place: Place,
     room: u32,
     tokens: &'a [Token],
-) -> Result<(List<Term>, &'a [Token]), Fault>
+) -> Read<'a, List<Term>>
     ensures { Gives (map view_term) result (spec.terms_by (spec.read types.now room spec.wholes (view_place place)) tokens.now) }
 {
     let mut terms = List::new(alloc);
@@ -488,8 +480,8 @@ fn more_terms<'a>(
     room: u32,
     first: List<Term>,
     tokens: &'a [Token],
-) -> Result<(List<Term>, &'a [Token]), Fault>
-    ensures { Gives (map view_term) result (with_items (map view_term first) (spec.more_terms (spec.read types.now room spec.wholes (view_place place)) (length tokens.now) tokens.now)) }
+) -> Read<'a, List<Term>>
+    ensures { Gives (map view_term) result (with_items (map view_term first) (more_separated (spec.read types.now room spec.wholes (view_place place)) (length tokens.now) tokens.now)) }
 {
     let mut terms = first;
     let mut rest = tokens;
@@ -515,7 +507,7 @@ fn worded<'a>(
     word: Word,
     line: Line,
     tokens: &'a [Token],
-) -> Result<(Term, &'a [Token]), Fault>
+) -> Read<'a, Term>
     ensures { Gives view_term result (spec.worded word line (spec.inner types.now room spec.wholes (inside_of (view_place place))) tokens.now) }
 {
     match word {
@@ -548,7 +540,7 @@ fn old<'a>(
     room: u32,
     line: Line,
     tokens: &'a [Token],
-) -> Result<(Term, &'a [Token]), Fault>
+) -> Read<'a, Term>
     ensures { Gives view_term result (spec.old_at line (spec.inner types.now room spec.wholes (inside_of (view_place place))) tokens.now) }
 {
     let (_, rest) = expect(Punct::OpenParen, tokens)?;
@@ -567,7 +559,7 @@ fn at_label<'a>(
     room: u32,
     line: Line,
     tokens: &'a [Token],
-) -> Result<(Term, &'a [Token]), Fault>
+) -> Read<'a, Term>
     ensures { Gives view_term result (spec.label_at line (spec.inner types.now room spec.wholes (inside_of (view_place place))) tokens.now) }
 {
     let (_, rest) = expect(Punct::OpenParen, tokens)?;

@@ -1,6 +1,5 @@
 // What single tokens are in a term.
 ghost use Rattle.std.specs.Prelude.{◌≡◌};
-ghost use Rattle.c_grammar.specs.Operators as operators;
 ghost use Rattle.c_grammar.specs.Terms.{term_unop_of};
 ghost use Rattle.c_grammar.specs.Views.{Finds};
 ghost use Rattle.parse_terms.specs.Read as spec;
@@ -8,7 +7,7 @@ ghost use Rattle.parse_terms.specs.Views.{view_place};
 
 use crate::past::past_at;
 use crate::place::Place;
-use c_grammar::punct_at;
+use c_grammar::{binop_of, level_of, punct_at, unop_of};
 use c_syntax::{BinOp, Punct, Token, TokenKind, UnOp};
 use parse_types::starts_type;
 use wp_base::{Line, Str};
@@ -19,50 +18,6 @@ pub enum Selector {
     Index,
     Dot,
     Arrow,
-}
-
-// The operator of two operands that is spelled so (C11 6.5.5 to 6.5.14).
-fn binop_of(punct: Punct) -> Option<BinOp>
-    ensures { result ≡ operators.binop_of punct }
-{
-    match punct {
-        Punct::Star => Some(BinOp::Mul),
-        Punct::Slash => Some(BinOp::Div),
-        Punct::Percent => Some(BinOp::Rem),
-        Punct::Plus => Some(BinOp::Add),
-        Punct::Minus => Some(BinOp::Sub),
-        Punct::Shl => Some(BinOp::Shl),
-        Punct::Shr => Some(BinOp::Shr),
-        Punct::Less => Some(BinOp::Less),
-        Punct::AtMost => Some(BinOp::AtMost),
-        Punct::Greater => Some(BinOp::Greater),
-        Punct::AtLeast => Some(BinOp::AtLeast),
-        Punct::Equal => Some(BinOp::Equal),
-        Punct::NotEqual => Some(BinOp::NotEqual),
-        Punct::Amp => Some(BinOp::BitAnd),
-        Punct::Caret => Some(BinOp::BitXor),
-        Punct::Bar => Some(BinOp::BitOr),
-        Punct::And => Some(BinOp::And),
-        Punct::Or => Some(BinOp::Or),
-        _ => None,
-    }
-}
-
-fn level_of(op: BinOp) -> u32
-    ensures { result ≡ operators.level op }
-{
-    match op {
-        BinOp::Mul | BinOp::Div | BinOp::Rem => 1,
-        BinOp::Add | BinOp::Sub => 2,
-        BinOp::Shl | BinOp::Shr => 3,
-        BinOp::Less | BinOp::AtMost | BinOp::Greater | BinOp::AtLeast => 4,
-        BinOp::Equal | BinOp::NotEqual => 5,
-        BinOp::BitAnd => 6,
-        BinOp::BitXor => 7,
-        BinOp::BitOr => 8,
-        BinOp::And => 9,
-        BinOp::Or => 10,
-    }
 }
 
 // Whether a parenthesis opens here, with `..` directly in it.
@@ -116,16 +71,11 @@ fn term_unop_of(place: Place, punct: Punct) -> Option<UnOp>
     ensures { result ≡ term_unop_of (view_place place) punct }
 {
     match punct {
-        Punct::Amp => Some(UnOp::AddressOf),
-        Punct::Star => Some(UnOp::Deref),
-        Punct::Plus => Some(UnOp::Plus),
-        Punct::Minus => Some(UnOp::Minus),
-        Punct::Tilde => Some(UnOp::BitNot),
         Punct::Not => match place {
             Place::InChain => None,
             Place::Anywhere | Place::InSet => Some(UnOp::Not),
         },
-        _ => None,
+        _ => unop_of(punct),
     }
 }
 

@@ -3,5 +3,4 @@ pub mod Reading
 pub mod Tokens
 pub mod Sound
 pub mod Complete
-pub mod Clauses
 pub mod Laws

@@ -12,8 +12,9 @@ use Rattle.c_grammar.specs.Tokens.{Names, is_type, token, punct, word, name}
 use Rattle.c_grammar.specs.Types as g
 use Rattle.c_grammar.specs.Reading.{punct_at, name_at}
 use Rattle.c_grammar.proofs.Readers.{Took, Sound, bind_ok, guard_ok, pair_is}
+use Rattle.c_grammar.proofs.SingleTokens.{punct_is, name_is}
 use Rattle.parse_types.specs.Read as r
-use Rattle.parse_types.proofs.Tokens.{kind_word_is, const_is, punct_is, name_is}
+use Rattle.parse_types.proofs.Tokens.{kind_word_is, const_is}
 
 -- ---- what comes in any number
 

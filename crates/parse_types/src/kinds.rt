@@ -5,7 +5,7 @@ ghost use Rattle.c_grammar.specs.Types as grammar;
 ghost use Rattle.c_grammar.specs.Views.{Gives};
 ghost use Rattle.parse_types.specs.Read as spec;
 
-use c_grammar::Fault;
+use c_grammar::{Fault, Read};
 use c_syntax::{Token, TokenKind, Word};
 use std::alloc::Global;
 use wp_base::{Kind, NoMemory};
@@ -134,7 +134,7 @@ fn words_at(alloc: Global, tokens: &[Token]) -> Result<(Vec<Word>, &[Token]), No
 
 /// The kind that the words at the front spell, and the tokens after them.
 #[tactic(auto, unfolding(crate::specs::Read::kind_at))]
-pub fn kind_at(alloc: Global, tokens: &[Token]) -> Result<(Kind, &[Token]), Fault>
+pub fn kind_at(alloc: Global, tokens: &[Token]) -> Read<'_, Kind>
     ensures { Gives (λ x. x) result (spec.kind_at tokens.now) }
 {
     let (words, rest) = words_at(alloc, tokens)?;

@@ -1,14 +1,13 @@
 // Types, pointers and names of types (C11 6.7.2, 6.7.3, 6.7.6, 6.7.7).
-ghost use Rattle.std.specs.Prelude.{◌≡◌, true, IfOk, length};
+ghost use Rattle.std.specs.Prelude.{◌≡◌, IfOk, length};
 ghost use Rattle.c_syntax.specs.View.{view_ctype};
 ghost use Rattle.c_syntax.specs.Expr as e;
-ghost use Rattle.c_grammar.specs.Types.{const_if, SpellsType, SpellsStars, SpellsTypeName};
+ghost use Rattle.c_grammar.specs.Types.{const_if};
 ghost use Rattle.c_grammar.specs.Views.{Gives};
-ghost use Rattle.parse_types.specs.Clauses.{IsSpelled, IsOnly};
 ghost use Rattle.parse_types.specs.Read as spec;
 
 use crate::kinds::{is_kind_word, kind_at};
-use c_grammar::{Fault, is_type, name_at, punct_at};
+use c_grammar::{Fault, Read, is_type, name_at, punct_at};
 use c_syntax::{CType, Punct, Token, TokenKind, Word};
 use std::alloc::Global;
 use wp_base::{Boxed, NoMemory, Str};
@@ -96,12 +95,7 @@ fn pointer(alloc: Global, constant: bool, to: CType) -> Result<CType, NoMemory>
 
 // The type that begins with a word.
 #[tactic(auto, using(crate::proofs::Reading::views))]
-fn worded<'a>(
-    alloc: Global,
-    word: Word,
-    tokens: &'a [Token],
-    after: &'a [Token],
-) -> Result<(CType, &'a [Token]), Fault>
+fn worded<'a>(alloc: Global, word: Word, tokens: &'a [Token], after: &'a [Token]) -> Read<'a, CType>
     ensures { Gives view_ctype result (spec.worded word tokens.now after.now) }
 {
     match word {
@@ -123,11 +117,7 @@ fn worded<'a>(
 
 // A type without `const`.
 #[tactic(auto, using(crate::proofs::Reading::views), unfolding(crate::specs::Read::specifier_at))]
-fn specifier_at<'a>(
-    alloc: Global,
-    types: &[Str],
-    tokens: &'a [Token],
-) -> Result<(CType, &'a [Token]), Fault>
+fn specifier_at<'a>(alloc: Global, types: &[Str], tokens: &'a [Token]) -> Read<'a, CType>
     ensures { Gives view_ctype result (spec.specifier_at types.now tokens.now) }
 {
     let Some((first, after)) = tokens.split_first() else {
@@ -142,13 +132,9 @@ fn specifier_at<'a>(
     }
 }
 
-// A type with its `const`.
+/// A type with its `const`, and the tokens after it.
 #[tactic(auto, unfolding(crate::specs::Read::type_at))]
-fn read_type<'a>(
-    alloc: Global,
-    types: &[Str],
-    tokens: &'a [Token],
-) -> Result<(CType, &'a [Token]), Fault>
+pub fn type_at<'a>(alloc: Global, types: &[Str], tokens: &'a [Token]) -> Read<'a, CType>
     ensures { Gives view_ctype result (spec.type_at types.now tokens.now) }
 {
     let (before, rest) = consts_at(tokens);
@@ -157,14 +143,14 @@ fn read_type<'a>(
     Ok((with_const(alloc, before || after, ty)?, rest))
 }
 
-// The pointers to a type, as many as there are.
+/// The pointers to a type, as many as there are, each with `const` where it is allowed.
 #[tactic(auto, using(crate::proofs::Reading::stars_turn))]
-fn read_stars<'a>(
+pub fn stars_at<'a>(
     alloc: Global,
     consts: bool,
     base: CType,
     tokens: &'a [Token],
-) -> Result<(CType, &'a [Token]), Fault>
+) -> Read<'a, CType>
     ensures { Gives view_ctype result (spec.stars_at consts (view_ctype base) tokens.now) }
 {
     let mut ty = base;
@@ -180,55 +166,11 @@ fn read_stars<'a>(
     Ok((ty, rest))
 }
 
-// A type and pointers to it.
+/// The name of a type: a type and pointers to it.
 #[tactic(auto, unfolding(crate::specs::Read::type_name_at))]
-fn read_type_name<'a>(
-    alloc: Global,
-    types: &[Str],
-    tokens: &'a [Token],
-) -> Result<(CType, &'a [Token]), Fault>
+pub fn type_name_at<'a>(alloc: Global, types: &[Str], tokens: &'a [Token]) -> Read<'a, CType>
     ensures { Gives view_ctype result (spec.type_name_at types.now tokens.now) }
 {
-    let (ty, rest) = read_type(alloc, types, tokens)?;
-    read_stars(alloc, false, ty, rest)
-}
-
-/// A type with its `const`, and the tokens after it.
-pub fn type_at<'a>(
-    alloc: Global,
-    types: &[Str],
-    tokens: &'a [Token],
-) -> Result<(CType, &'a [Token]), Fault>
-    ensures reads { Gives view_ctype result (spec.type_at types.now tokens.now) }
-    ensures spelled { IsSpelled (SpellsType types.now) view_ctype tokens.now result }
-    ensures only { IsOnly (SpellsType types.now) (λ rest. spec.ends_type rest ≡ true) view_ctype tokens.now result }
-{
-    read_type(alloc, types, tokens)
-}
-
-/// The pointers to a type, as many as there are, each with `const` where it is allowed.
-pub fn stars_at<'a>(
-    alloc: Global,
-    consts: bool,
-    base: CType,
-    tokens: &'a [Token],
-) -> Result<(CType, &'a [Token]), Fault>
-    ensures reads { Gives view_ctype result (spec.stars_at consts (view_ctype base) tokens.now) }
-    ensures spelled { IsSpelled (λ front ty. SpellsStars consts front (view_ctype base) ty) view_ctype tokens.now result }
-    ensures only { IsOnly (λ front ty. SpellsStars consts front (view_ctype base) ty) (λ rest. spec.ends_stars consts rest ≡ true) view_ctype tokens.now result }
-{
-    read_stars(alloc, consts, base, tokens)
-}
-
-/// The name of a type: a type and pointers to it.
-pub fn type_name_at<'a>(
-    alloc: Global,
-    types: &[Str],
-    tokens: &'a [Token],
-) -> Result<(CType, &'a [Token]), Fault>
-    ensures reads { Gives view_ctype result (spec.type_name_at types.now tokens.now) }
-    ensures spelled { IsSpelled (SpellsTypeName types.now) view_ctype tokens.now result }
-    ensures only { IsOnly (SpellsTypeName types.now) (λ rest. spec.ends_type_name rest ≡ true) view_ctype tokens.now result }
-{
-    read_type_name(alloc, types, tokens)
+    let (ty, rest) = type_at(alloc, types, tokens)?;
+    stars_at(alloc, false, ty, rest)
 }

@@ -1,8 +1,9 @@
 use Rattle.std.proofs.Common.{arith, ◌∙◌, ◌-◌, ◌+◌, length, sym}
 use Rattle.std.proofs.lemmas.Result.{err_from_is_err_and}
 use Rattle.acsl_parser.specs.Read.{plain_name_at}
-use Rattle.acsl_parser.proofs.Reading.{items_end, items_stop, plain_next, plain_fault}
+use Rattle.acsl_parser.proofs.Reading.{plain_next}
 use Rattle.acsl_parser.proofs.endings.more_names.Goals as goal
+use Rattle.c_grammar.proofs.Turns.{items_end, items_stop, items_fault}
 
 pub returns-in_default : goal.returns-in_default
 returns-in_default c =
@@ -15,7 +16,7 @@ returns-in_err-item c =
     let p = err_from_is_err_and c.from_residual.result c.from_residual.ensures.1 in
     let left = length c.args.tokens.now - c.loop-turn.turn in
     rw (p.1, p.2, ← c.loop-turn.invariant)
-    (plain_fault item left (left - 1) c.loop-turn.items c.loop-turn.rest.now _ c.in-Some.after.now _ (omega arith) c.in-Some.ensures c.in_err-item.ensures)
+    (items_fault (λ x. x) (λ xs. xs) item left (left - 1) c.loop-turn.items c.loop-turn.rest.now _ c.in-Some.after.now _ (omega arith) c.in-Some.ensures c.in_err-item.ensures)
 
 pub loop-turn-preserved : goal.loop-turn-preserved
 loop-turn-preserved c =

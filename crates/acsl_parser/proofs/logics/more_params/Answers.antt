@@ -2,8 +2,8 @@ use Rattle.std.proofs.Common.{arith, ◌∙◌, ◌-◌, ◌+◌, length, map, s
 use Rattle.std.proofs.lemmas.Result.{err_from_is_err_and}
 use Rattle.c_syntax.specs.View.{view_var}
 use Rattle.parse_preds.specs.Read.{typed_at}
-use Rattle.acsl_parser.proofs.Reading.{items_end, items_stop, items_next, items_fault}
 use Rattle.acsl_parser.proofs.logics.more_params.Goals as goal
+use Rattle.c_grammar.proofs.Turns.{items_end, items_stop, items_next, items_fault}
 
 pub returns-in_default : goal.returns-in_default
 returns-in_default c =
@@ -16,14 +16,14 @@ returns-in_err-item c =
     let p = err_from_is_err_and c.from_residual.result c.from_residual.ensures.1 in
     let left = length c.args.tokens.now - c.loop-turn.turn in
     rw (p.1, p.2, ← c.loop-turn.invariant)
-    (items_fault view_var item left (left - 1) (map view_var c.loop-turn.items) c.loop-turn.rest.now _ c.in-Some.after.now _ (omega arith) c.in-Some.ensures c.in_err-item.ensures.reads)
+    (items_fault view_var (map view_var) item left (left - 1) (map view_var c.loop-turn.items) c.loop-turn.rest.now _ c.in-Some.after.now _ (omega arith) c.in-Some.ensures c.in_err-item.ensures)
 
 pub loop-turn-preserved : goal.loop-turn-preserved
 loop-turn-preserved c =
     let item = typed_at c.args.types.now in
     let left = length c.args.tokens.now - c.loop-turn.turn in
     let later = length c.args.tokens.now - (c.loop-turn.turn + 1) in
-    items_next view_var item left later c.loop-turn.items _ c.in_ok-item.item c.loop-turn.rest.now _ c.in-Some.after.now c.in_ok-item.after.now (omega arith) c.in-Some.ensures c.in_ok-item.ensures.reads c.in_ok-push.ensures.ok
+    items_next view_var item left later c.loop-turn.items _ c.in_ok-item.item c.loop-turn.rest.now _ c.in-Some.after.now c.in_ok-item.after.now (omega arith) c.in-Some.ensures c.in_ok-item.ensures c.in_ok-push.ensures.ok
     ∙ c.loop-turn.invariant
 
 pub returns : goal.returns

@@ -1,18 +1,23 @@
-use Rattle.std.proofs.Common.{true, length, refl, sym, ap, ◌∙◌, arith}
+use Rattle.std.proofs.Common.{true, length, refl, sym, ap, ◌∙◌, arith, ◌-◌, drop}
 use Rattle.std.proofs.lemmas.Option.{slice_get_read}
 use Rattle.c_syntax.specs.View.{view_contract}
 use Rattle.c_grammar.specs.Annots.{SpellsContract}
 use Rattle.acsl_parser.specs.Spelled.{IsClosed}
 use Rattle.acsl_parser.specs.Places.{placed}
-use Rattle.acsl_parser.proofs.Placing.{rest_here, place_here, stands, only_there, refuses}
+use Rattle.acsl_parser.proofs.Placing.{rest_here, place_here, stands, only_there, refuses, rest_shorter}
 use Rattle.acsl_parser.proofs.places.parse_contract.Goals as goal
+use Rattle.acsl_parser.specs.Read.{contract_at}
+use Rattle.acsl_parser.proofs.Laws.{contract_sound}
+use Rattle.acsl_parser.proofs.Closed.{contract_only}
+use Rattle.acsl_parser.proofs.Promises.{spelled_here, only_here}
 
 pub returns-clause-spelled : goal.returns-clause-spelled
 returns-clause-spelled c =
     let tokens = c.args.tokens.now in
     let rest = rest_here c.args.at tokens (omega (arith, c.requires)) in
     let here = place_here c.args.at tokens (omega (arith, c.requires)) in
-    let spelled = rw (c.as_slice-all.ensures, c.as_slice.ensures, rest, here) at c.contract_at-found.ensures.spelled in
+    let reads = rw (c.as_slice-all.ensures, c.as_slice.ensures, rest) at c.contract_at-found.ensures in
+    let spelled = rw here at (spelled_here (SpellsContract c.args.types.now (length tokens - length (drop c.args.at tokens))) view_contract (contract_at c.args.types.now (length tokens)) (drop c.args.at tokens) (λ y rest h. contract_sound c.args.types.now (length tokens) (drop c.args.at tokens) y rest (rest_shorter c.args.at tokens) h) c.contract_at-found.result reads) in
     rw (c.placed.ensures, c.as_slice-all.ensures)
     (stands (SpellsContract c.args.types.now c.args.at) view_contract true tokens c.args.at _ c.contract_at-found.result (omega (arith, c.requires)) spelled)
 
@@ -21,7 +26,8 @@ returns-clause-only c part next s =
     let tokens = c.args.tokens.now in
     let rest = rest_here c.args.at tokens (omega (arith, c.requires)) in
     let here = place_here c.args.at tokens (omega (arith, c.requires)) in
-    let only = rw (c.as_slice-all.ensures, c.as_slice.ensures, rest, here) at c.contract_at-found.ensures.only in
+    let reads = rw (c.as_slice-all.ensures, c.as_slice.ensures, rest) at c.contract_at-found.ensures in
+    let only = rw here at (only_here (SpellsContract c.args.types.now (length tokens - length (drop c.args.at tokens))) IsClosed view_contract (contract_at c.args.types.now (length tokens)) (drop c.args.at tokens) (contract_only c.args.types.now (length tokens) (drop c.args.at tokens) (rest_shorter c.args.at tokens)) c.contract_at-found.result reads) in
     rw (c.placed.ensures, c.as_slice-all.ensures)
     (only_there (SpellsContract c.args.types.now c.args.at) IsClosed view_contract true tokens c.args.at _ c.contract_at-found.result (λ ts closed. closed) only part next s)
 

@@ -1,4 +1,4 @@
-use Rattle.std.proofs.Common.{List, false, length, refl, sym, ap, ◌∙◌, arith}
+use Rattle.std.proofs.Common.{List, false, length, refl, sym, ap, ◌∙◌, arith, drop}
 use Rattle.std.proofs.lemmas.Option.{slice_get_read}
 use Rattle.c_syntax.specs.declared.token.Token.{Token}
 use Rattle.c_syntax.specs.View.{view_logic}
@@ -6,12 +6,17 @@ use Rattle.c_grammar.specs.Annots.{SpellsLogic}
 use Rattle.acsl_parser.specs.Places.{placed}
 use Rattle.acsl_parser.proofs.Placing.{rest_here, stands, only_there, refuses}
 use Rattle.acsl_parser.proofs.places.parse_global.Goals as goal
+use Rattle.acsl_parser.specs.Read.{logic_at}
+use Rattle.acsl_parser.proofs.Laws.{logic_sound}
+use Rattle.acsl_parser.proofs.Closed.{logic_only}
+use Rattle.acsl_parser.proofs.Promises.{spelled_here, only_here}
 
 pub returns-clause-spelled : goal.returns-clause-spelled
 returns-clause-spelled c =
     let tokens = c.args.tokens.now in
     let rest = rest_here c.args.at tokens (omega (arith, c.requires)) in
-    let spelled = rw (c.as_slice-all.ensures, c.as_slice.ensures, rest) at c.logic_at-found.ensures.spelled in
+    let reads = rw (c.as_slice-all.ensures, c.as_slice.ensures, rest) at c.logic_at-found.ensures in
+    let spelled = spelled_here (SpellsLogic c.args.types.now) view_logic (logic_at c.args.types.now) (drop c.args.at tokens) (λ y rest h. logic_sound c.args.types.now (drop c.args.at tokens) y rest h) c.logic_at-found.result reads in
     rw (c.placed.ensures, c.as_slice-all.ensures)
     (stands (SpellsLogic c.args.types.now) view_logic false tokens c.args.at _ c.logic_at-found.result (omega (arith, c.requires)) spelled)
 
@@ -19,7 +24,8 @@ pub returns-clause-only : goal.returns-clause-only
 returns-clause-only c part next s =
     let tokens = c.args.tokens.now in
     let rest = rest_here c.args.at tokens (omega (arith, c.requires)) in
-    let only = rw (c.as_slice-all.ensures, c.as_slice.ensures, rest) at c.logic_at-found.ensures.only in
+    let reads = rw (c.as_slice-all.ensures, c.as_slice.ensures, rest) at c.logic_at-found.ensures in
+    let only = only_here (SpellsLogic c.args.types.now) (λ (ts : List Token). Unit {0}) view_logic (logic_at c.args.types.now) (drop c.args.at tokens) (logic_only c.args.types.now (drop c.args.at tokens)) c.logic_at-found.result reads in
     rw (c.placed.ensures, c.as_slice-all.ensures)
     (only_there (SpellsLogic c.args.types.now) (λ (ts : List Token). Unit {0}) view_logic false tokens c.args.at _ c.logic_at-found.result (λ ts any. any) only part next s)
 

@@ -1,13 +1,13 @@
 use Rattle.std.proofs.Common.{◌≡◌, ◌-◌, map}
 use Rattle.c_syntax.specs.View.{view_ctype, view_var}
 use Rattle.parse_exprs.specs.Read.{cond_at, expr_at}
-use Rattle.parse_decls.specs.Items.{more_items, with_items}
 use Rattle.parse_decls.specs.Views.{view_param}
 use Rattle.parse_decls.specs.Read.{initialised_of}
 use Rattle.parse_decls.proofs.declarators.more_variables.Given as goal
+use Rattle.c_grammar.specs.ListReaders.{with_items, more_separated}
 
 -- those so far and those of what is left are all
 abbrev pub invariant-loop-turn : goal.invariant-loop-turn
 invariant-loop-turn l =
     let item = initialised_of l.types (cond_at l.types) (expr_at l.types) l.room (view_ctype l.base) in
-    with_items (map view_var l.vars) (more_items item (l.turn-end - l.turn) l.rest) ≡ with_items (map view_var l.fn.first) (more_items item l.turn-end l.tokens)
+    with_items (map view_var l.vars) (more_separated item (l.turn-end - l.turn) l.rest) ≡ with_items (map view_var l.fn.first) (more_separated item l.turn-end l.tokens)

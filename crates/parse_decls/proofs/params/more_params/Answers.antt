@@ -4,8 +4,8 @@ use Rattle.c_syntax.specs.View.{view_ctype, view_var}
 use Rattle.parse_exprs.specs.Read.{cond_at, expr_at}
 use Rattle.parse_decls.specs.Views.{view_param}
 use Rattle.parse_decls.specs.Read.{param_on_of}
-use Rattle.parse_decls.proofs.Reading.{items_end, items_stop, items_next, items_fault}
 use Rattle.parse_decls.proofs.params.more_params.Goals as goal
+use Rattle.c_grammar.proofs.Turns.{items_end, items_stop, items_next, items_fault}
 
 pub returns-in_default : goal.returns-in_default
 returns-in_default c =
@@ -18,7 +18,7 @@ returns-in_err-param c =
     let p = err_from_is_err_and c.from_residual.result c.from_residual.ensures.1 in
     let left = length c.args.tokens.now - c.loop-turn.turn in
     rw (p.1, p.2, ← c.loop-turn.invariant)
-    (items_fault view_param item left (left - 1) (map view_param c.loop-turn.params) c.loop-turn.rest.now _ c.in-Some.after.now _ (omega arith) c.in-Some.ensures c.in_err-param.ensures)
+    (items_fault view_param (map view_param) item left (left - 1) (map view_param c.loop-turn.params) c.loop-turn.rest.now _ c.in-Some.after.now _ (omega arith) c.in-Some.ensures c.in_err-param.ensures)
 
 pub loop-turn-preserved : goal.loop-turn-preserved
 loop-turn-preserved c =

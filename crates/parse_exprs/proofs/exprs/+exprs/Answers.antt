@@ -3,10 +3,12 @@ use Rattle.std.proofs.lemmas.Result.{err_from_is_err_and}
 use Rattle.c_syntax.specs.Expr as e
 use Rattle.c_syntax.specs.View.{view_expr}
 use Rattle.parse_exprs.specs.declared.trees.Place.{Place}
-use Rattle.parse_exprs.specs.Read.{inside, binary, unary_at, expr_at, finish, some_args, assigns}
+use Rattle.parse_exprs.specs.Read.{inside, binary, unary_at, expr_at, finish, some_args, assigns, binary_make}
 use Rattle.parse_exprs.specs.Views.{with_args, with_places}
-use Rattle.parse_exprs.proofs.Reading.{view_last, args_fault, args_last, args_turn, suffixes_fault, suffixes_turn, chain_fault, chain_turn, expr_is, assigns_begin, assigns_fault, assigns_last, assigns_last_fault, assigns_turn}
+use Rattle.parse_exprs.proofs.Reading.{view_last, args_fault, args_last, args_turn, suffixes_fault, suffixes_turn, expr_is, assigns_begin, assigns_fault, assigns_last, assigns_last_fault, assigns_turn}
 use Rattle.parse_exprs.proofs.exprs.+exprs.Goals as goal
+use Rattle.parse_exprs.specs.Operators.{operator}
+use Rattle.c_grammar.proofs.Chains.{chain_fault, chain_turn}
 
 -- ---- arguments
 
@@ -60,14 +62,14 @@ chain-returns-in_err-right t c =
     let p = err_from_is_err_and c.from_residual.result c.from_residual.ensures.1 in
     let left = length c.args.tokens.now - c.loop-turn.turn in
     rw (p.1, p.2, ← c.loop-turn.invariant)
-    (chain_fault c.args.level left (left - 1) (binary (c.args.level - 1) (unary_at c.args.types.now c.args.room)) (view_expr c.loop-turn.left) c.loop-turn.rest.now
+    (chain_fault view_expr binary_make (operator c.args.level) left (left - 1) (binary (c.args.level - 1) (unary_at c.args.types.now c.args.room)) (view_expr c.loop-turn.left) c.loop-turn.rest.now
     c.in-Some.op c.in-Some.line c.in-Some.after.now _ (omega arith) c.in-Some.ensures c.in_err-right.ensures)
 
 pub chain-loop-turn-preserved : goal.chain-loop-turn-preserved
 chain-loop-turn-preserved t c =
     let left = length c.args.tokens.now - c.loop-turn.turn in
     let later = length c.args.tokens.now - (c.loop-turn.turn + 1) in
-    chain_turn c.args.level left later (binary (c.args.level - 1) (unary_at c.args.types.now c.args.room)) (view_expr c.loop-turn.left) (view_expr c.in_ok-right.right) (view_expr c.in_ok-left.left) c.loop-turn.rest.now
+    chain_turn binary_make (operator c.args.level) left later (binary (c.args.level - 1) (unary_at c.args.types.now c.args.room)) (view_expr c.loop-turn.left) (view_expr c.in_ok-right.right) (view_expr c.in_ok-left.left) c.loop-turn.rest.now
     c.in-Some.op c.in-Some.line c.in-Some.after.now c.in_ok-right.after.now (omega arith) c.in-Some.ensures c.in_ok-right.ensures c.in_ok-left.ensures
     ∙ c.loop-turn.invariant
 

@@ -5,14 +5,13 @@ use Rattle.parse_file.specs.declared.file.Front.{Front}
 use Rattle.parse_file.specs.Read.{decl_at}
 use Rattle.parse_file.specs.Views.{view_front, view_found, view_lines}
 use Rattle.parse_file.proofs.Reading.{front_ends, front_stops, front_turn}
-use Rattle.parse_file.proofs.Sound.{decl_shorter}
 use Rattle.parse_file.proofs.file.file_front.Goals as goal
 
 pub returns-in-Err-Syntax : goal.returns-in-Err-Syntax
 returns-in-Err-Syntax c =
     let end = length c.args.tokens.now in
     let none : decl_at c.as_slice.result.now end c.loop-turn.front.left.now ≡ None = rw c.in-Err-Syntax.field-0-is at c.in-Err-Syntax.ensures in
-    sym (front_stops end (end - c.loop-turn.turn) (view_front c.loop-turn.front) c.as_slice.result.now c.as_slice.ensures none) ∙ c.loop-turn.invariant.so_far
+    sym (front_stops end (end - c.loop-turn.turn) (view_front c.loop-turn.front) c.as_slice.result.now c.as_slice.ensures none) ∙ c.loop-turn.invariant
 
 pub loop-turn-preserved : goal.loop-turn-preserved
 loop-turn-preserved c =
@@ -24,16 +23,11 @@ loop-turn-preserved c =
     let one_more : end - turn ≡ end - (turn + 1) + 1 = omega (arith, c.loop-turn-test.true) in
     let decls = ap (map view_decl) c.in_ok-append-in-Ok.ensures ∙ map-append view_decl front.decls found.decls in
     let lines = ap (map view_lines) c.in_ok-append-in-Ok-3.ensures ∙ map-append view_lines front.lines found.lines in
-    let shorter = decl_shorter c.as_slice.result.now end front.left.now (view_found found) c.in-Ok.rest.now c.loop-turn.invariant.within c.in-Ok.ensures in
-    record {
-      within = omega (arith, shorter, c.loop-turn.invariant.within);
-      so_far =
-          front_turn end (end - turn) (end - (turn + 1)) (view_front front) (view_front next) c.as_slice.result.now (view_found found) c.in-Ok.rest.now one_more c.as_slice.ensures c.in-Ok.ensures decls c.in_ok-append-in-Ok-2.ensures lines refl
-          ∙ c.loop-turn.invariant.so_far;
-    }
+    front_turn end (end - turn) (end - (turn + 1)) (view_front front) (view_front next) c.as_slice.result.now (view_found found) c.in-Ok.rest.now one_more c.as_slice.ensures c.in-Ok.ensures decls c.in_ok-append-in-Ok-2.ensures lines refl
+    ∙ c.loop-turn.invariant
 
 pub returns : goal.returns
 returns c =
     let end = length c.args.tokens.now in
     let over : end - c.loop-turn.turn ≡ 0 = omega arith in
-    sym (front_ends end (end - c.loop-turn.turn) (view_front c.loop-turn.front) over) ∙ c.loop-turn.invariant.so_far
+    sym (front_ends end (end - c.loop-turn.turn) (view_front c.loop-turn.front) over) ∙ c.loop-turn.invariant

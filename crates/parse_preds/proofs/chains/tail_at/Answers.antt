@@ -13,7 +13,7 @@ returns-in_err-next c =
     let left = length c.args.tokens.now - c.loop-turn.turn in
     rw (p.1, p.2, ← c.loop-turn.invariant)
     (tail_fault view_term view_tail (chain_term_at c.args.types.now c.args.room) left (left - 1) (map view_term c.loop-turn.terms) c.loop-turn.ops c.loop-turn.rest.now
-    c.in-Some.op c.in-Some.field-0-0-1 c.in-Some.after.now _ (omega arith) c.in-Some.ensures c.in_err-next.ensures.reads)
+    c.in-Some.op c.in-Some.field-0-0-1 c.in-Some.after.now _ (omega arith) c.in-Some.ensures c.in_err-next.ensures)
 
 pub loop-turn-preserved : goal.loop-turn-preserved
 loop-turn-preserved c =
@@ -21,5 +21,5 @@ loop-turn-preserved c =
     let later = length c.args.tokens.now - (c.loop-turn.turn + 1) in
     rw (c.in_ok-push-2.ensures.ok, c.in_ok-push-3.ensures.ok, map_push)
     (tail_turn (chain_term_at c.args.types.now c.args.room) left later (map view_term c.loop-turn.terms) c.loop-turn.ops (view_term c.in_ok-next.next) c.loop-turn.rest.now
-    c.in-Some.op c.in-Some.field-0-0-1 c.in-Some.after.now c.in_ok-next.after.now (omega arith) c.in-Some.ensures c.in_ok-next.ensures.reads
+    c.in-Some.op c.in-Some.field-0-0-1 c.in-Some.after.now c.in_ok-next.after.now (omega arith) c.in-Some.ensures c.in_ok-next.ensures
     ∙ c.loop-turn.invariant)

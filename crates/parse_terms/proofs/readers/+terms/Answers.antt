@@ -4,9 +4,12 @@ use Rattle.std.proofs.lemmas.Result.{err_from_is_err_and}
 use Rattle.c_syntax.specs.View.{view_term}
 use Rattle.c_grammar.specs.Reading.{levels}
 use Rattle.c_grammar.specs.Terms.{inside_of}
+use Rattle.c_grammar.specs.ListReaders.{with_items, more_separated}
+use Rattle.c_grammar.proofs.Chains.{chain_fault, chain_turn}
+use Rattle.c_grammar.proofs.Turns.{items_end, items_stop, items_turn, items_fault}
 use Rattle.parse_terms.specs.Read as r
-use Rattle.parse_terms.specs.Views.{view_place, with_items}
-use Rattle.parse_terms.proofs.Reading.{chain_fault, chain_turn, choice_fault, parts_fault, parts_turn, terms_end, terms_stop, terms_turn, terms_fault}
+use Rattle.parse_terms.specs.Views.{view_place}
+use Rattle.parse_terms.proofs.Reading.{choice_fault, parts_fault, parts_turn}
 use Rattle.parse_terms.proofs.readers.+terms.Goals as goal
 
 pub operators-returns-in_err-right : goal.operators-returns-in_err-right
@@ -48,7 +51,7 @@ parts-loop-turn-preserved t c =
 pub more_terms-returns-in_default : goal.more_terms-returns-in_default
 more_terms-returns-in_default t c =
     let one = r.read c.args.types.now c.args.room r.wholes (view_place c.args.place) in
-    sym c.loop-turn.invariant ∙ terms_stop one (length c.args.tokens.now - c.loop-turn.turn) (map view_term c.loop-turn.terms) c.loop-turn.rest.now c.in_default.ensures
+    sym c.loop-turn.invariant ∙ items_stop one (length c.args.tokens.now - c.loop-turn.turn) (map view_term c.loop-turn.terms) c.loop-turn.rest.now c.in_default.ensures
 
 pub more_terms-returns-in_err-item : goal.more_terms-returns-in_err-item
 more_terms-returns-in_err-item t c =
@@ -56,7 +59,7 @@ more_terms-returns-in_err-item t c =
     let left = length c.args.tokens.now - c.loop-turn.turn in
     let one = r.read c.args.types.now c.args.room r.wholes (view_place c.args.place) in
     rw (p.1, p.2, ← c.loop-turn.invariant)
-    (terms_fault view_term (map view_term) one left (left - 1) _ (map view_term c.loop-turn.terms) c.loop-turn.rest.now c.in-Some.after.now _ (omega arith) c.in-Some.ensures c.in_err-item.ensures)
+    (items_fault view_term (map view_term) one left (left - 1) (map view_term c.loop-turn.terms) c.loop-turn.rest.now _ c.in-Some.after.now _ (omega arith) c.in-Some.ensures c.in_err-item.ensures)
 
 pub more_terms-loop-turn-preserved : goal.more_terms-loop-turn-preserved
 more_terms-loop-turn-preserved t c =
@@ -65,14 +68,14 @@ more_terms-loop-turn-preserved t c =
     let one = r.read c.args.types.now c.args.room r.wholes (view_place c.args.place) in
     let item = c.in_ok-item.item in
     let pushed = ap (map view_term) c.in_ok-push.ensures.ok ∙ map-append view_term c.loop-turn.terms (item ∷ []) in
-    ap (λ as'. with_items as' (r.more_terms one later c.in_ok-item.after.now)) pushed
-    ∙ terms_turn one left later _ (map view_term c.loop-turn.terms) (view_term item) c.loop-turn.rest.now c.in-Some.after.now c.in_ok-item.after.now (omega arith) c.in-Some.ensures c.in_ok-item.ensures
+    ap (λ as'. with_items as' (more_separated one later c.in_ok-item.after.now)) pushed
+    ∙ items_turn one left later (map view_term c.loop-turn.terms) (view_term item) c.loop-turn.rest.now _ c.in-Some.after.now c.in_ok-item.after.now (omega arith) c.in-Some.ensures c.in_ok-item.ensures
     ∙ c.loop-turn.invariant
 
 pub more_terms-returns : goal.more_terms-returns
 more_terms-returns t c =
     let one = r.read c.args.types.now c.args.room r.wholes (view_place c.args.place) in
-    sym c.loop-turn.invariant ∙ terms_end one (length c.args.tokens.now - c.loop-turn.turn) (map view_term c.loop-turn.terms) c.loop-turn.rest.now (omega arith)
+    sym c.loop-turn.invariant ∙ items_end one (length c.args.tokens.now - c.loop-turn.turn) (map view_term c.loop-turn.terms) c.loop-turn.rest.now (omega arith)
 
 pub choice-returns-in_err-second : goal.choice-returns-in_err-second
 choice-returns-in_err-second t c =

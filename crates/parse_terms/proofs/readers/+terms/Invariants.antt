@@ -2,8 +2,9 @@ use Rattle.std.proofs.Common.{◌≡◌, ◌+◌, ◌*◌, ◌-◌, map}
 use Rattle.c_syntax.specs.View.{view_term}
 use Rattle.c_grammar.specs.Reading.{chain, levels}
 use Rattle.c_grammar.specs.Terms.{inside_of}
+use Rattle.c_grammar.specs.ListReaders.{with_items, more_separated}
 use Rattle.parse_terms.specs.Read as r
-use Rattle.parse_terms.specs.Views.{view_place, with_items}
+use Rattle.parse_terms.specs.Views.{view_place}
 use Rattle.parse_terms.proofs.readers.+terms.Given as goal
 
 abbrev pub decreases-inner_term : goal.decreases-inner_term
@@ -97,4 +98,4 @@ invariant-parts-loop-turn l =
 abbrev pub invariant-more_terms-loop-turn : goal.invariant-more_terms-loop-turn
 invariant-more_terms-loop-turn l =
     let one = r.read l.types l.room r.wholes (view_place l.place) in
-    with_items (map view_term l.terms) (r.more_terms one (l.turn-end - l.turn) l.rest) ≡ with_items (map view_term l.fn.first) (r.more_terms one l.turn-end l.tokens)
+    with_items (map view_term l.terms) (more_separated one (l.turn-end - l.turn) l.rest) ≡ with_items (map view_term l.fn.first) (more_separated one l.turn-end l.tokens)

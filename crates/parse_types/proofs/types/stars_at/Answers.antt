@@ -1,11 +1,9 @@
-use Rattle.c_syntax.specs.View.{view_ctype}
-use Rattle.parse_types.specs.Read.{stars_at}
-use Rattle.parse_types.proofs.Clauses.{is_spelled, is_only}
-use Rattle.parse_types.proofs.Laws.{stars_sound, stars_complete}
+use Rattle.std.proofs.Common.{sym, ◌∙◌, arith}
+use Rattle.parse_types.proofs.Reading.{stars_all, stars_stop, stars_end}
 use Rattle.parse_types.proofs.types.stars_at.Goals as goal
 
-pub returns-clause-spelled : goal.returns-clause-spelled
-returns-clause-spelled c = is_spelled _ view_ctype (stars_at c.args.consts (view_ctype c.args.base)) (stars_sound c.args.consts (view_ctype c.args.base)) _ _ c.read_stars.ensures
+pub returns-in_default : goal.returns-in_default
+returns-in_default c = stars_all _ _ _ ∙ sym c.loop-turn.invariant ∙ stars_stop _ _ _ _ c.in_default.ensures
 
-pub returns-clause-only : goal.returns-clause-only
-returns-clause-only c = is_only _ _ view_ctype (stars_at c.args.consts (view_ctype c.args.base)) (λ xs t. stars_complete c.args.consts xs (view_ctype c.args.base) t) _ _ c.read_stars.ensures
+pub returns : goal.returns
+returns c = stars_all _ _ _ ∙ sym c.loop-turn.invariant ∙ stars_end _ _ _ _ (omega arith)

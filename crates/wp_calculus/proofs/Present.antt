@@ -108,7 +108,8 @@ pub enters : (ls : List Local) (contents : List ℤ) → Enters ls (entered ls c
 enters [] contents = Enters.none
 enters (l ∷ ls) contents = by l.name l.has_value (enters ls)
   where
-    by : (x : List ℕ) (b : Bool) → ((contents : List ℤ) → Enters ls (entered ls contents)) → Enters (local x b ∷ ls) (cond b (holding x (pos 0) ∷ entered ls contents) (unset x (next contents) ∷ entered ls (others contents)))
+    by : (x : List ℕ) (b : Bool) → ((contents : List ℤ) → Enters ls (entered ls contents))
+        → Enters (local x b ∷ ls) (cond b (holding x (pos 0) ∷ entered ls contents) (unset x (next contents) ∷ entered ls (others contents)))
     by x true rest = Enters.with_value (rest contents)
     by x false rest = Enters.without_value (next contents) (rest (others contents))
 
@@ -116,7 +117,8 @@ pub names_entered : (ls : List Local) (contents : List ℤ) → names (entered l
 names_entered [] contents = refl
 names_entered (l ∷ ls) contents = by l.has_value (names_entered ls)
   where
-    by : (b : Bool) → ((contents : List ℤ) → names (entered ls contents) ≡ names_of ls) → names (cond b (holding l.name (pos 0) ∷ entered ls contents) (unset l.name (next contents) ∷ entered ls (others contents))) ≡ l.name ∷ names_of ls
+    by : (b : Bool) → ((contents : List ℤ) → names (entered ls contents) ≡ names_of ls)
+        → names (cond b (holding l.name (pos 0) ∷ entered ls contents) (unset l.name (next contents) ∷ entered ls (others contents))) ≡ l.name ∷ names_of ls
     by true rest = ap (λ ns. l.name ∷ ns) (rest contents)
     by false rest = ap (λ ns. l.name ∷ ns) (rest (others contents))
 
@@ -131,7 +133,8 @@ has_same xs ns ms e h x k = ap (λ ls. is_among ls x) e ∙ h x k
 
 pub fine_entered : (bare : List (List ℕ)) (ss : Stmts) (contents : List ℤ) → Has (all_bare_in ss) bare → Fine bare (entered (locals_of ss) contents)
 fine_entered bare stop contents h = tt
-fine_entered bare (more (declare x) ss) contents h = ((λ k. absurd (false≢true (sym k ∙ h x (among_self x (all_bare_in ss))))), fine_entered bare ss (others contents) (has_tail x (all_bare_in ss) bare h))
+fine_entered bare (more (declare x) ss) contents h =
+    ((λ k. absurd (false≢true (sym k ∙ h x (among_self x (all_bare_in ss))))), fine_entered bare ss (others contents) (has_tail x (all_bare_in ss) bare h))
 fine_entered bare (more (define x e) ss) contents h = ((λ k. refl), fine_entered bare ss contents h)
 fine_entered bare (more (block ts) ss) contents h = fine_entered bare ss contents (has_back (all_bare_in ts) (all_bare_in ss) bare h)
 fine_entered bare (more (assign x e) ss) contents h = fine_entered bare ss contents h
@@ -140,7 +143,8 @@ fine_entered bare (more (choose e a b) ss) contents h = fine_entered bare ss con
 fine_entered bare (more (assert q line) ss) contents h = fine_entered bare ss contents h
 
 -- what is in scope after a statement, and the locals that are still to come, are there where they were before
-pub scope_goes_on : (s : Stmt) (ss : Stmts) (scope ns : List (List ℕ)) → Has scope ns → Has (names_of (locals_of (more s ss))) ns → Has (scope_after s scope) ns × Has (names_of (locals_of ss)) ns
+pub scope_goes_on : (s : Stmt) (ss : Stmts) (scope ns : List (List ℕ)) → Has scope ns → Has (names_of (locals_of (more s ss))) ns
+    → Has (scope_after s scope) ns × Has (names_of (locals_of ss)) ns
 scope_goes_on (declare x) ss scope ns h k = (has_more x scope ns (k x (among_self x (names_of (locals_of ss)))) h, has_tail x (names_of (locals_of ss)) ns k)
 scope_goes_on (define x e) ss scope ns h k = (has_more x scope ns (k x (among_self x (names_of (locals_of ss)))) h, has_tail x (names_of (locals_of ss)) ns k)
 scope_goes_on (block ts) ss scope ns h k = (h, k)
@@ -169,4 +173,5 @@ body_keeps_scope f w =
     let declared = declare_in_blocks f.body in
     let required = list_all (λ (c : Clause). pred_uses_only f.params c.pred) f.requires_ in
     and_right (differ && spelled) kept
-    (and_left (differ && spelled && kept) declared (and_left (differ && spelled && kept && declared) required (and_left (differ && spelled && kept && declared && required) _ w)))
+    (and_left (differ && spelled && kept) declared
+    (and_left (differ && spelled && kept && declared) required (and_left (differ && spelled && kept && declared && required) _ w)))

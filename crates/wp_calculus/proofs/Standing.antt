@@ -21,7 +21,8 @@ at_front (q ∷ ps) qs n i p (inr h) = inr (at_front ps qs (suc n) i p h)
 
 pub at_back : (ps qs : List Place) (n i : ℕ) (p : Place) → At (n + length ps) qs i p → At n (ps ++ qs) i p
 at_back [] qs n i p h = let same : n + 0 ≡ n = omega arith in subst (λ m. At m qs i p) same h
-at_back (q ∷ ps) qs n i p h = let same : n + length (q ∷ ps) ≡ suc n + length ps = omega arith in inr (at_back ps qs (suc n) i p (subst (λ m. At m qs i p) same h))
+at_back (q ∷ ps) qs n i p h =
+    let same : n + length (q ∷ ps) ≡ suc n + length ps = omega arith in inr (at_back ps qs (suc n) i p (subst (λ m. At m qs i p) same h))
 
 pub at_where : (b : Bool) (ps : List Place) (n i : ℕ) (p : Place) → b ≡ true → At n ps i p → At n (where_so b ps) i p
 at_where true ps n i p e h = h
@@ -51,11 +52,13 @@ taken_back false true h = absurd (false≢true (sym h))
 decided : (st : State) (e : Expr) (b : Bool) → is_taken st e ≡ not b → (z : ℤ) → constant e ≡ Some z → int_eq z (pos 0) ≡ b
 decided st e b h z k = ap (λ y. int_eq y (pos 0)) (sym (constant_is (held_by st) e z k)) ∙ taken_back (int_eq (value st e) (pos 0)) b h
 
-first_at : (k : Option ℤ) (ps qs : List Place) (n i : ℕ) (p : Place) → ((z : ℤ) → k ≡ Some z → int_eq z (pos 0) ≡ false) → At n ps i p → At n (of_arms k (ps ++ qs) ps qs) i p
+first_at : (k : Option ℤ) (ps qs : List Place) (n i : ℕ) (p : Place) → ((z : ℤ) → k ≡ Some z → int_eq z (pos 0) ≡ false) → At n ps i p
+    → At n (of_arms k (ps ++ qs) ps qs) i p
 first_at None ps qs n i p d h = at_front ps qs n i p h
 first_at (Some z) ps qs n i p d h = subst (λ b. At n (cond b qs ps) i p) (sym (d z refl)) h
 
-second_at : (k : Option ℤ) (ps qs : List Place) (n i : ℕ) (p : Place) → ((z : ℤ) → k ≡ Some z → int_eq z (pos 0) ≡ true) → At (n + of_arms k (length ps) 0 0) qs i p
+second_at : (k : Option ℤ) (ps qs : List Place) (n i : ℕ) (p : Place) → ((z : ℤ) → k ≡ Some z → int_eq z (pos 0) ≡ true)
+    → At (n + of_arms k (length ps) 0 0) qs i p
     → At n (of_arms k (ps ++ qs) ps qs) i p
 second_at None ps qs n i p d h = at_back ps qs n i p h
 second_at (Some z) ps qs n i p d h = by (int_eq z (pos 0)) (d z refl) h
@@ -64,16 +67,20 @@ second_at (Some z) ps qs n i p d h = by (int_eq z (pos 0)) (d z refl) h
     by true e h = let same : n + 0 ≡ n = omega arith in subst (λ m. At m qs i p) same h
     by false e h = absurd (false≢true e)
 
-pub first_in : (bare : List (List ℕ)) (e : Expr) (a b : Stmt) (st : State) (n i : ℕ) (p : Place) → is_taken st e ≡ true → At (n + length (asked bare e)) (checks bare a) i p
+pub first_in : (bare : List (List ℕ)) (e : Expr) (a b : Stmt) (st : State) (n i : ℕ) (p : Place) → is_taken st e ≡ true
+    → At (n + length (asked bare e)) (checks bare a) i p
     → At n (asked bare e ++ of_arms (constant e) (checks bare a ++ checks bare b) (checks bare a) (checks bare b)) i p
-first_in bare e a b st n i p t h = at_back (asked bare e) _ n i p (first_at (constant e) (checks bare a) (checks bare b) (n + length (asked bare e)) i p (decided st e false t) h)
+first_in bare e a b st n i p t h =
+    at_back (asked bare e) _ n i p (first_at (constant e) (checks bare a) (checks bare b) (n + length (asked bare e)) i p (decided st e false t) h)
 
-pub second_in : (bare : List (List ℕ)) (e : Expr) (a b : Stmt) (st : State) (n i : ℕ) (p : Place) → is_taken st e ≡ false → At (n + before_second bare e a) (checks bare b) i p
+pub second_in : (bare : List (List ℕ)) (e : Expr) (a b : Stmt) (st : State) (n i : ℕ) (p : Place) → is_taken st e ≡ false
+    → At (n + before_second bare e a) (checks bare b) i p
     → At n (asked bare e ++ of_arms (constant e) (checks bare a ++ checks bare b) (checks bare a) (checks bare b)) i p
 second_in bare e a b st n i p t h =
     let same : n + before_second bare e a ≡ n + length (asked bare e) + of_arms (constant e) (length (checks bare a)) 0 0 = omega arith in
     at_back (asked bare e) _ n i p
-    (second_at (constant e) (checks bare a) (checks bare b) (n + length (asked bare e)) i p (decided st e true t) (subst (λ m. At m (checks bare b) i p) same h))
+    (second_at (constant e) (checks bare a) (checks bare b) (n + length (asked bare e)) i p (decided st e true t)
+    (subst (λ m. At m (checks bare b) i p) same h))
 
 -- ---- ends that are reached
 
@@ -92,13 +99,15 @@ or_second : (a b : Bool) → b ≡ true → (a || b) ≡ true
 or_second true b h = refl
 or_second false b h = h
 
-can_first : (k : Option ℤ) (a b c d : Bool) (o : End) → ((z : ℤ) → k ≡ Some z → int_eq z (pos 0) ≡ false) → CanEnd a c o → CanEnd (of_arms k (a || b) a b) (of_arms k (c || d) c d) o
+can_first : (k : Option ℤ) (a b c d : Bool) (o : End) → ((z : ℤ) → k ≡ Some z → int_eq z (pos 0) ≡ false) → CanEnd a c o
+    → CanEnd (of_arms k (a || b) a b) (of_arms k (c || d) c d) o
 can_first None a b c d (goes_on st) e h = ap (λ x. x || b) h
 can_first None a b c d (returns z st) e h = ap (λ x. x || d) h
 can_first None a b c d (fails i) e h = tt
 can_first (Some z) a b c d o e h = subst (λ x. CanEnd (cond x b a) (cond x d c) o) (sym (e z refl)) h
 
-can_second : (k : Option ℤ) (a b c d : Bool) (o : End) → ((z : ℤ) → k ≡ Some z → int_eq z (pos 0) ≡ true) → CanEnd b d o → CanEnd (of_arms k (a || b) a b) (of_arms k (c || d) c d) o
+can_second : (k : Option ℤ) (a b c d : Bool) (o : End) → ((z : ℤ) → k ≡ Some z → int_eq z (pos 0) ≡ true) → CanEnd b d o
+    → CanEnd (of_arms k (a || b) a b) (of_arms k (c || d) c d) o
 can_second None a b c d (goes_on st) e h = or_second a b h
 can_second None a b c d (returns z st) e h = or_second c d h
 can_second None a b c d (fails i) e h = tt
@@ -120,12 +129,15 @@ mutual
   can_end (Seg.gives_value t) = refl
   can_end (Seg.give_fails f) = tt
   can_end (Seg.condition_fails f) = tt
-  can_end {st} {o} (Seg.first_arm {e} {a = p} {b = q} t taken arm) = can_first (constant e) (goes p) (goes q) (gives p) (gives q) o (decided st e false taken) (can_end arm)
-  can_end {st} {o} (Seg.second_arm {e} {a = p} {b = q} t taken arm) = can_second (constant e) (goes p) (goes q) (gives p) (gives q) o (decided st e true taken) (can_end arm)
+  can_end {st} {o} (Seg.first_arm {e} {a = p} {b = q} t taken arm) =
+      can_first (constant e) (goes p) (goes q) (gives p) (gives q) o (decided st e false taken) (can_end arm)
+  can_end {st} {o} (Seg.second_arm {e} {a = p} {b = q} t taken arm) =
+      can_second (constant e) (goes p) (goes q) (gives p) (gives q) o (decided st e true taken) (can_end arm)
   can_end (Seg.asserted t) = refl
   can_end (Seg.assert_fails f) = tt
 
-  pub all_can_end : {params : ℕ} {bare : List (List ℕ)} {n : ℕ} {ss : Stmts} {st : State} {o : End} → Segs params bare n ss st o → CanEnd (all_go ss) (some_gives ss) o
+  pub all_can_end : {params : ℕ} {bare : List (List ℕ)} {n : ℕ} {ss : Stmts} {st : State} {o : End} → Segs params bare n ss st o
+      → CanEnd (all_go ss) (some_gives ss) o
   all_can_end Segs.at_end = refl
   all_can_end {o} (Segs.goes_through {s} {ss} first rest) = can_follow (goes s) (all_go ss) (gives s) (some_gives ss) o (can_end first) (all_can_end rest)
   all_can_end (Segs.returns_early {s} {ss} first) = ap (λ x. x || (goes s && some_gives ss)) (can_end first)
@@ -142,7 +154,8 @@ at_the_end f e =
     (at_back (all_checks (bare_of f) f.body) _ 0 (after_body f) _ (at_front (where_so (all_go f.body) (place check.NoReturn f.end ∷ [])) _ _ (after_body f) _
     (at_where (all_go f.body) (place check.NoReturn f.end ∷ []) _ (after_body f) _ e (inl (omega arith, refl)))))
 
-pub at_ensures : (f : Function) (i : ℕ) (p : Place) → some_gives f.body ≡ true → At (first_ensures f) (map ensures_place f.ensures_) i p → slice_get (places f) i ≡ Some p
+pub at_ensures : (f : Function) (i : ℕ) (p : Place) → some_gives f.body ≡ true → At (first_ensures f) (map ensures_place f.ensures_) i p
+    → slice_get (places f) i ≡ Some p
 at_ensures f i p e h =
     let at_end = where_so (all_go f.body) (place check.NoReturn f.end ∷ []) in
     let same : first_ensures f ≡ 0 + length (all_checks (bare_of f) f.body) + length at_end = omega arith in

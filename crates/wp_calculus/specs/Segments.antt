@@ -171,7 +171,8 @@ before_second bare e a = length (asked bare e) + of_arms (constant e) (count bar
 mutual
   -- A segment run of a statement whose first check has the number n, in a function with so many parameters.
   pub data Seg (params : ℕ) (bare : List (List ℕ)) : (n : ℕ) → Stmt → State → End → Type 0 where
-    of_block : {n : ℕ} {ss : Stmts} {st made : State} {o : End} → Enters (locals_of ss) made → Segs params bare n ss (st ++ made) o → Seg params bare n (block ss) st (leaves (length st) o)
+    of_block : {n : ℕ} {ss : Stmts} {st made : State} {o : End} → Enters (locals_of ss) made → Segs params bare n ss (st ++ made) o
+        → Seg params bare n (block ss) st (leaves (length st) o)
     declares : {n : ℕ} {x : List ℕ} {st : State} → Seg params bare n (declare x) st (goes_on st)
     defines : {n : ℕ} {x : List ℕ} {e : Expr} {st : State} → AllTrue (tests bare st e) → Seg params bare n (define x e) st (goes_on (put x (value st e) st))
     define_fails : {n i : ℕ} {x : List ℕ} {e : Expr} {st : State} → FirstFalse n (tests bare st e) i → Seg params bare n (define x e) st (fails i)
@@ -189,8 +190,10 @@ mutual
 
   pub data Segs (params : ℕ) (bare : List (List ℕ)) : (n : ℕ) → Stmts → State → End → Type 0 where
     at_end : {n : ℕ} {st : State} → Segs params bare n stop st (goes_on st)
-    goes_through : {n : ℕ} {s : Stmt} {ss : Stmts} {st mid : State} {o : End} → Seg params bare n s st (goes_on mid) → Segs params bare (n + count bare s) ss mid o → Segs params bare n (more s ss) st o
-    returns_early : {n : ℕ} {s : Stmt} {ss : Stmts} {st last : State} {z : ℤ} → Seg params bare n s st (returns z last) → Segs params bare n (more s ss) st (returns z last)
+    goes_through : {n : ℕ} {s : Stmt} {ss : Stmts} {st mid : State} {o : End} → Seg params bare n s st (goes_on mid)
+        → Segs params bare (n + count bare s) ss mid o → Segs params bare n (more s ss) st o
+    returns_early : {n : ℕ} {s : Stmt} {ss : Stmts} {st last : State} {z : ℤ} → Seg params bare n s st (returns z last)
+        → Segs params bare n (more s ss) st (returns z last)
     fails_early : {n i : ℕ} {s : Stmt} {ss : Stmts} {st : State} → Seg params bare n s st (fails i) → Segs params bare n (more s ss) st (fails i)
 
 -- ---- what locals without a value hold in a segment run, in the order in which they are made

@@ -59,7 +59,8 @@ SegmentsToRuns = (f : Function) → is_well_named f ≡ true → ((i : ℕ) → 
 -- Where a segment run fails at a check, the run of the function goes wrong with the kind and the line of that check, if the contents of the
 -- run are those that locals without a value hold in the segment run, and these are of type `int`.
 abbrev pub FailuresAreMet : Type 0
-FailuresAreMet = (f : Function) → is_well_named f ≡ true → (i : ℕ) (args : List ℤ) (failing : FailsAt f i args) → AllInt (held failing.fails) → (others : List ℤ)
+FailuresAreMet =
+    (f : Function) → is_well_named f ≡ true → (i : ℕ) (args : List ℤ) (failing : FailsAt f i args) → AllInt (held failing.fails) → (others : List ℤ)
     → (p : Place) × (slice_get (places f) i ≡ Some p) × MeetsAt f args (held failing.fails ++ others) p
 
 -- Where each local is declared with a value, it does so whatever the contents.

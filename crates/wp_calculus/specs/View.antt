@@ -28,8 +28,11 @@ pub record PlainGoal : Type 0 where
   pub known : List Tree
   pub claim : Tree
 
+abbrev pub plain_goal : Place → (known : List Tree) → (claim : Tree) → PlainGoal
+plain_goal p known claim = record { place = p; known = known; claim = claim }
+
 abbrev pub plain : Goal → PlainGoal
-plain g = record { place = g.place; known = g.known; claim = g.claim }
+plain g = plain_goal g.place g.known g.claim
 
 abbrev pub view_goal : NamedGoal → PlainGoal
 view_goal g = record { place = view_place g.place; known = map formula_tree g.goal.known; claim = formula_tree g.goal.check }

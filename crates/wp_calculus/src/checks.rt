@@ -1,11 +1,11 @@
 // The checks of an expression, and the goals that ask for them.
-ghost use Rattle.std.specs.Prelude.{◌≡◌, ◌++◌, ◌∷◌, [], map, OnOk};
+ghost use Rattle.std.specs.Prelude.{◌≡◌, ◌++◌, ◌∷◌, [], map, IfOk, OnOk};
 ghost use Rattle.qed_terms.specs.View.{formula_tree};
 ghost use Rattle.core_prog.specs.View.{view_expr};
 ghost use Rattle.wp_calculus.specs.Segments.{asked, place};
 ghost use Rattle.wp_calculus.specs.Formulas as spec;
 ghost use Rattle.wp_calculus.specs.Goals.{ask};
-ghost use Rattle.wp_calculus.specs.View.{claimed, claimed_at, plain, view_goal, view_slot};
+ghost use Rattle.wp_calculus.specs.View.{claimed, claimed_at, plain, plain_goal, view_goal, view_slot};
 
 use crate::places::{Check, CheckPlace, NamedGoal};
 use crate::slots::{Slot, flag_of, is_among};
@@ -78,6 +78,18 @@ pub fn add_checks(
     }
 }
 
+// The goal of a check under what is known.
+fn goal_of(alloc: Global, known: &List<Formula>, claim: &Claim) -> Result<NamedGoal, NoMemory>
+    ensures { IfOk result (λ goal. view_goal goal ≡ plain_goal (claimed_at claim.now) (map formula_tree known.now) (claimed claim.now)) }
+{
+    let check = claim.formula.copy(alloc)?;
+    let known = copy_formulas(known, alloc)?;
+    Ok(NamedGoal {
+        place: claim.place,
+        goal: Goal { known, check },
+    })
+}
+
 /// Asks each check under what is known; its claim is known from then on.
 #[tactic(auto, using(crate::proofs::Growing::asked_next, crate::proofs::Growing::known_next))]
 pub fn ask(
@@ -89,13 +101,10 @@ pub fn ask(
     ensures known { OnOk result (map formula_tree known.new ≡ map formula_tree known.old ++ map claimed checks) }
     ensures goals { OnOk result (map view_goal goals.new ≡ map view_goal goals.old ++ map plain (ask 0 (map formula_tree known.old) (map claimed_at checks) (map claimed checks))) }
 {
-    for Claim { place, formula } in checks.into_vec() {
-        let check = formula.copy(alloc)?;
-        let goal = Goal {
-            known: copy_formulas(known, alloc)?,
-            check,
-        };
-        goals.push(NamedGoal { place, goal })?;
+    for claim in checks.into_vec() {
+        let goal = goal_of(alloc, known, &claim)?;
+        goals.push(goal)?;
+        let Claim { place: _, formula } = claim;
         known.push(formula)?;
     }
     Ok(())

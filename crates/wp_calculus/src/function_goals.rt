@@ -79,14 +79,22 @@ fn known_at_entry(alloc: Global, function: &Function) -> Result<List<Formula>, N
     Ok(known)
 }
 
+// A parameter at entry, with its own name as its value.
+fn entry_slot(alloc: Global, name: &Str) -> Result<Slot, NoMemory>
+    ensures { IfOk result (λ slot. view_slot slot ≡ formulas.set_slot name.now (var name.now)) }
+{
+    let copied = name.copy(alloc)?;
+    let value = Term::name(alloc, name)?;
+    Ok(set_slot(copied, value))
+}
+
 // The parameters at entry, each with its own name as its value.
 fn params_at_entry(alloc: Global, params: &[Str]) -> Result<List<Slot>, NoMemory>
     ensures { IfOk result (λ slots. map view_slot slots ≡ map (λ x. formulas.set_slot x (var x)) params.now) }
 {
     let mut slots = List::new(alloc);
     for name in params {
-        let value = Term::name(alloc, name)?;
-        slots.push(set_slot(name.copy(alloc)?, value))?;
+        slots.push(entry_slot(alloc, name)?)?;
     }
     Ok(slots)
 }

@@ -119,14 +119,7 @@ fn join_slots(
         rests,
     )?;
     let base = flag_base(alloc, &first.name)?;
-    let flag = join_terms(
-        alloc,
-        fresh,
-        &base,
-        &first.flag,
-        &second.flag,
-        rests,
-    )?;
+    let flag = join_terms(alloc, fresh, &base, &first.flag, &second.flag, rests)?;
     let name = first.name.copy(alloc)?;
     Ok(Slot { name, value, flag })
 }

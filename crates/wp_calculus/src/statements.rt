@@ -1,6 +1,7 @@
 // The walk over a body, with what is known and the terms of the variables at each point.
-ghost use Rattle.std.specs.Prelude.{◌≡◌, ◌++◌, ◌∷◌, [], Some, None, map, IfOk, OnOk};
-ghost use Rattle.qed_terms.specs.Fresh.{none_used, used_in};
+ghost use Rattle.std.specs.Prelude.{◌≡◌, ◌++◌, ◌∷◌, [], Some, None, map, pos, IfOk, OnOk};
+ghost use Rattle.qed_terms.specs.Fresh.{none_used, use_one, used_in};
+ghost use Rattle.qed_terms.specs.Tree.{num};
 ghost use Rattle.qed_terms.specs.View.{formula_tree, term_tree};
 ghost use Rattle.core_prog.specs.Tree as tree;
 ghost use Rattle.core_prog.specs.Tree.{stmts_of};
@@ -194,6 +195,21 @@ fn assertion(
 
 // ---- statements with statements in them
 
+// A local that isn't set, with a fresh value.
+fn unset_slot(alloc: Global, fresh: &mut Fresh, name: &Str) -> Result<Slot, NoMemory>
+    ensures slot { IfOk result (λ slot. view_slot slot ≡ formulas.slot name.now (spec.new_name (used_in fresh.old) name.now) (num (pos 0))) }
+    ensures used { OnOk result (used_in fresh.new ≡ use_one (used_in fresh.old) name.now) }
+{
+    let copied = name.copy(alloc)?;
+    let value = new_name(alloc, fresh, name)?;
+    let flag = Term::number(0);
+    Ok(Slot {
+        name: copied,
+        value,
+        flag,
+    })
+}
+
 // A local that is declared directly in a block: one without a value has a fresh value and isn't set.
 #[tactic(auto, using(core_prog::proofs::Equations::stmt_laws))]
 fn enter_local(
@@ -208,14 +224,13 @@ fn enter_local(
     match stmt {
         Stmt::Block(_) => Ok(()),
         Stmt::Declare(name) => {
-            let value = new_name(alloc, fresh, name)?;
-            let flag = Term::number(0);
-            let name = name.copy(alloc)?;
-            slots.push(Slot { name, value, flag })?;
+            let slot = unset_slot(alloc, fresh, name)?;
+            slots.push(slot)?;
             Ok(())
         }
         Stmt::Define(name, _) => {
-            slots.push(set_slot(name.copy(alloc)?, Term::number(0)))?;
+            let name = name.copy(alloc)?;
+            slots.push(set_slot(name, Term::number(0)))?;
             Ok(())
         }
         Stmt::Assign(_, _) => Ok(()),

@@ -5,7 +5,7 @@ use Rattle.core_prog.specs.Tree.{more, stop}
 use Rattle.core_prog.specs.View.{view_stmt}
 use Rattle.core_prog.proofs.Equations.{view_stmt-Block, view_stmt-Declare, view_stmt-Define, view_stmt-Assign, view_stmt-Return, view_stmt-If, view_stmt-Assert}
 use Rattle.wp_calculus.specs.State.{locals_of}
-use Rattle.wp_calculus.specs.Formulas.{slot, set_slot}
+use Rattle.wp_calculus.specs.Formulas.{set_slot}
 use Rattle.wp_calculus.specs.Goals.{entered}
 use Rattle.wp_calculus.specs.View.{view_slot}
 use Rattle.wp_calculus.proofs.statements.enter_local.Goals as goal
@@ -39,12 +39,12 @@ pub returns-in_ok-push-in-Declare-clause-slots : goal.returns-in_ok-push-in-Decl
 returns-in_ok-push-in-Declare-clause-slots c =
     let done = map view_slot c.args.slots.now in
     ap (map view_slot) c.in_ok-push-in-Declare.ensures.ok ∙ map_push view_slot c.args.slots.now _
-    ∙ (λ i. done ++ slot (c.in_ok-name-in-Declare.ensures i) (c.in_ok-value-in-Declare.ensures.name i) (c.number-flag.ensures i) ∷ [])
+    ∙ ap (λ v. done ++ v ∷ []) c.in_ok-slot-in-Declare.ensures.slot
     ∙ sym (ap (λ s. done ++ entered (used_in c.args.fresh.now) (locals_of (more s stop))) (ap view_stmt c.in-Declare.is ∙ view_stmt-Declare c.in-Declare.name))
 
 pub returns-in_ok-push-in-Define-clause-slots : goal.returns-in_ok-push-in-Define-clause-slots
 returns-in_ok-push-in-Define-clause-slots c =
     let done = map view_slot c.args.slots.now in
     ap (map view_slot) c.in_ok-push-in-Define.ensures.ok ∙ map_push view_slot c.args.slots.now c.set_slot.result
-    ∙ ap (λ v. done ++ v ∷ []) (c.set_slot.ensures ∙ (λ i. set_slot (c.in_ok-copy-in-Define.ensures i) (c.number.ensures i)))
+    ∙ ap (λ v. done ++ v ∷ []) (c.set_slot.ensures ∙ (λ i. set_slot (c.in_ok-name-in-Define.ensures i) (c.number.ensures i)))
     ∙ sym (ap (λ s. done ++ entered (used_in c.args.fresh.now) (locals_of (more s stop))) (ap view_stmt c.in-Define.is ∙ view_stmt-Define c.in-Define.name c.in-Define.field-1))

@@ -60,7 +60,7 @@ fn is_unequal(ops: &[BinOp]) -> bool
 }
 
 // Whether these comparisons stand in one chain.
-#[tactic(auto, using(c_grammar::proofs::Chains::chain_test))]
+#[tactic(auto, using(crate::proofs::Reading::chain_test))]
 fn is_chain(ops: &[BinOp]) -> bool
     ensures { result ≡ is_chain_of ops.now }
 {

@@ -30,13 +30,13 @@ fn ended_at<'a>(
     alloc: Global,
     types: &[Str],
     room: u32,
-    end: Punct,
+    close: Punct,
     tokens: &'a [Token],
 ) -> Read<'a, Expr>
-    ensures { Gives view_expr result (spec.ended_at types.now room end tokens.now) }
+    ensures { Gives view_expr result (spec.ended_at types.now room close tokens.now) }
 {
     let (value, rest) = expr_at(alloc, types, room, tokens)?;
-    let (_, rest) = expect(end, rest)?;
+    let (_, rest) = expect(close, rest)?;
     Ok((value, rest))
 }
 
@@ -55,15 +55,15 @@ pub fn optional_at<'a>(
     alloc: Global,
     types: &[Str],
     room: u32,
-    end: Punct,
+    close: Punct,
     tokens: &'a [Token],
 ) -> Read<'a, Option<Expr>>
-    ensures { Gives (option_map view_expr) result (spec.optional_at types.now room end tokens.now) }
+    ensures { Gives (option_map view_expr) result (spec.optional_at types.now room close tokens.now) }
 {
-    if let Some((_, rest)) = punct_at(end, tokens) {
+    if let Some((_, rest)) = punct_at(close, tokens) {
         return Ok((None, rest));
     }
-    let (value, rest) = ended_at(alloc, types, room, end, tokens)?;
+    let (value, rest) = ended_at(alloc, types, room, close, tokens)?;
     Ok((Some(value), rest))
 }
 

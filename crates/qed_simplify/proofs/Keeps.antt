@@ -1,10 +1,10 @@
 -- Each rule keeps the meaning.
 use Rattle.std.proofs.Common.{◌≡◌, ℕ, zero, suc, inl, inr, Bool, true, false, not, ◌&&◌, ◌||◌, cond, ℤ, pos, ◌+ℤ◌, ◌-ℤ◌, int_le, List, [], ◌∷◌, ◌++◌, map, refl, sym, ◌∙◌, ap}
-use Rattle.std.specs.Prelude.{Option, Some, None}
+use Rattle.std.specs.Prelude.{Option, Some, None, option_map}
 use Rattle.qed_terms.specs.declared.head.Head.{Head}
 use Rattle.qed_terms.specs.declared.head.Head.TheVariants as h
 use Rattle.qed_terms.specs.declared.head.TermOp.TheVariants as op
-use Rattle.qed_terms.specs.declared.head.FormOp.TheVariants as form
+use Rattle.qed_terms.specs.declared.head.FormOp.TheVariants as rel
 use Rattle.qed_terms.specs.declared.head.Sort.TheVariants as sort
 use Rattle.qed_terms.specs.Tree.{Tree, node, Trees, stop, more, trees_of, list_of, head_of, kids_in, two, three, num, at_most, equal, true_tree, false_tree, not_of}
 use Rattle.qed_terms.specs.Operators.{is_zero, is_equal}
@@ -12,14 +12,16 @@ use Rattle.wp_base.specs.Blocks.{to_nat, same_truth}
 use Rattle.qed_terms.specs.Meaning.{World, Values, with_int, Value, Whole, Truth, is_so, value, truth, meaning, meanings, each_true, some_true, all_from, some_from}
 use Rattle.qed_terms.proofs.Lists.{trees_of-list_of}
 use Rattle.qed_terms.specs.Order.{same}
-use Rattle.qed_simplify.specs.Linear.{fits, Part, Lin, lin, number, is_number, part_tree, sum_tree, of_lin, minus, is_integer, parts_hold, cut, own_form, lower, lowers, divisor, divides, tight, exact, turned}
-use Rattle.qed_simplify.specs.Rules.{Rule, is_formula, differs, changed, sums, arm, chosen_arm, truth_tree, at_most_zero, is_zero_form, at_most_tree, equal_tree, less_rule, at_most_rule, equal_rule, imp_rule, iff_rule, nots, option_tree, flipped, inward, not_rule, joint, is_joint, is_truth, has, among, among_some, flattened, without_units, has_repeat, fresh, is_opposed, flatten, absorb, drop_units, drop_repeats, oppose, alone, at_joints, first_of_rules, table, step}
-use Rattle.qed_simplify.proofs.Facts.{and_left, and_right, or_either, so_is, either}
+use Rattle.qed_linear.specs.Linear.{fits, Part, Lin, lin, number, is_number, part_tree, sum_tree, of_lin, subtract, is_integer, parts_fit, checked, head_form, to_lin, to_lins, common_divisor, divides, tighten, divide_exact, make_lead_positive}
+use Rattle.qed_rules.specs.Rules.{Rule, is_formula, unless_same, changed, sums_rule, chosen_arm, choice_rule, truth_constant, at_most_zero, equals_zero, at_most_tree, equal_tree, less_rule, at_most_rule, equality_rule, implication_rule, equivalence_rule, nots, negated_relation, inward, negation_rule, junction, is_junction, is_truth_constant, has, among, among_some, flatten, drop_units, has_repeat, drop_repeats, is_opposed, flat_rule, absorbing_rule, units_rule, repeats_rule, opposites_rule, single_rule, at_junctions, first_of_rules, table, step}
+use Rattle.qed_linear.proofs.Facts.{and_left, and_right}
+use Rattle.qed_simplify.proofs.Tests.{or_either, then_some_is, either}
 use Rattle.qed_terms.proofs.Total.{same_exact}
-use Rattle.qed_simplify.proofs.Rounding.{le_difference, lt_more, not_le, zero_less}
+use Rattle.qed_simplify.proofs.Comparisons.{le_difference, lt_more, not_le, zero_less}
 use Rattle.qed_simplify.proofs.Derived.{Fixed, AllFixed}
-use Rattle.qed_simplify.proofs.Linears.{Good, cut_good, minus_good, lower_good, own_good, lowers_good}
-use Rattle.qed_simplify.proofs.Values.{value_of, minus_value, cut_value, number_value, lower_value, own_form_value, of_lin_value, tight_value, exact_value, never_zero, turned_value}
+use Rattle.qed_simplify.proofs.Settled.{Canonical, to_lin_canonical, to_lins_canonical, IsAtom}
+use Rattle.qed_linear.proofs.Canonical.{checked_canonical, subtract_canonical, head_form_canonical}
+use Rattle.qed_linear.proofs.Values.{value_of, subtract_value, checked_value, number_value, to_lin_value, head_form_value, of_lin_value, tighten_value, divide_exact_value, never_zero, lead_positive_value}
 
 -- ---- truth values
 
@@ -134,12 +136,12 @@ module _ (world : World) (env : Values) where
   formula_truth (node (h.App f) ts) k = absurd cc
   formula_truth (node head ts) k = refl
 
-  truth_means : (b : Bool) → M (truth_tree b) ≡ Truth b
+  truth_means : (b : Bool) → M (truth_constant b) ≡ Truth b
   truth_means true = refl
   truth_means false = refl
 
-  differs_is : (w t v : Tree) → differs w t ≡ Some v → w ≡ v
-  differs_is w t v k = go (same w t) k
+  unless_same_is : (w t v : Tree) → unless_same w t ≡ Some v → w ≡ v
+  unless_same_is w t v k = go (same w t) k
     where
       go : (b : Bool) → cond b None (Some w) ≡ Some v → w ≡ v
       go true e = absurd cc
@@ -154,7 +156,7 @@ module _ (world : World) (env : Values) where
       go true = k
       go false = refl
 
-  of_lin_integer : (ps : List Part) (c : ℤ) → parts_hold ps ≡ true → is_integer (head_of (of_lin (lin ps c))) ≡ true
+  of_lin_integer : (ps : List Part) (c : ℤ) → parts_fit ps ≡ true → is_integer (head_of (of_lin (lin ps c))) ≡ true
   of_lin_integer [] c k = go (is_zero c)
     where
       go : (b : Bool) → is_integer (head_of (sum_tree (cond b [] (num c ∷ [])))) ≡ true
@@ -167,7 +169,7 @@ module _ (world : World) (env : Values) where
       go false = refl
   of_lin_integer (p ∷ q ∷ ps) c k = refl
 
-  own_integer : (head : Head) (fs : List Lin) (g : Lin) → own_form head fs ≡ Some g → (ts : Trees) → M (node head ts) ≡ Whole (V (node head ts))
+  own_integer : (head : Head) (fs : List Lin) (g : Lin) → head_form head fs ≡ Some g → (ts : Trees) → M (node head ts) ≡ Whole (V (node head ts))
   own_integer (h.Num z) fs g e ts = refl
   own_integer (h.Term op.Store) fs g e ts = absurd cc
   own_integer (h.Term (op.Alloc layout)) fs g e ts = absurd cc
@@ -175,15 +177,15 @@ module _ (world : World) (env : Values) where
   own_integer (h.Term o) fs g e ts = refl
   own_integer head fs g e ts = absurd cc
 
-  keeps_sums : Keeps sums
-  keeps_sums head ts w f k = go (own_form head (lowers ts)) refl k
+  keeps_sums : Keeps sums_rule
+  keeps_sums head ts w f k = go (head_form head (to_lins ts)) refl k
     where
-      go : (o : Option Lin) → own_form head (lowers ts) ≡ o → changed of_lin o (node head ts) ≡ Some w → M w ≡ M (node head ts)
+      go : (o : Option Lin) → head_form head (to_lins ts) ≡ o → changed of_lin o (node head ts) ≡ Some w → M w ≡ M (node head ts)
       go None e r = absurd cc
       go (Some g) e r =
-          let good = own_good head (lowers ts) g (lowers_good ts f) e in
-          ap M (sym (differs_is (of_lin g) (node head ts) w r)) ∙ integer_whole (of_lin g) (of_lin_integer (g.parts) (g.constant) good.1)
-          ∙ ap Whole (of_lin_value world env g ∙ own_form_value world env head ts g e) ∙ sym (own_integer head (lowers ts) g e ts)
+          let good = head_form_canonical IsAtom head (to_lins ts) g (to_lins_canonical ts f) e in
+          ap M (sym (unless_same_is (of_lin g) (node head ts) w r)) ∙ integer_whole (of_lin g) (of_lin_integer (g.parts) (g.constant) good.1)
+          ∙ ap Whole (of_lin_value world env g ∙ head_form_value world env head ts g e) ∙ sym (own_integer head (to_lins ts) g e ts)
 
   -- ---- chosen arm
 
@@ -195,15 +197,15 @@ module _ (world : World) (env : Values) where
   either_arm true t u e = refl
   either_arm false t u e = e
 
-  arm_means : (f t u w : Tree) → arm (head_of f) t u ≡ Some w → M w ≡ Whole (cond (so f) (V t) (V u))
-  arm_means (node h.True ts) t u w k = let p = so_is (is_integer (head_of t)) t w k in ap M (sym p.1) ∙ integer_whole t p.0
-  arm_means (node h.False ts) t u w k = let p = so_is (is_integer (head_of u)) u w k in ap M (sym p.1) ∙ integer_whole u p.0
+  arm_means : (f t u w : Tree) → chosen_arm (head_of f) t u ≡ Some w → M w ≡ Whole (cond (so f) (V t) (V u))
+  arm_means (node h.True ts) t u w k = let p = then_some_is (is_integer (head_of t)) t w k in ap M (sym p.1) ∙ integer_whole t p.0
+  arm_means (node h.False ts) t u w k = let p = then_some_is (is_integer (head_of u)) u w k in ap M (sym p.1) ∙ integer_whole u p.0
   arm_means (node head ts) t u w k =
-      let p = so_is (same t u && is_integer (head_of t)) t w k in
+      let p = then_some_is (same t u && is_integer (head_of t)) t w k in
       let a = same_arm t u p.0 in
       ap M (sym p.1) ∙ integer_whole t a.1 ∙ ap Whole (either_arm (so (node head ts)) t u a.0)
 
-  keeps_arm : Keeps chosen_arm
+  keeps_arm : Keeps choice_rule
   keeps_arm h.Ite (more f (more t (more u stop))) w k e = arm_means f t u w e
   keeps_arm head ts w f k = absurd cc
 
@@ -212,71 +214,71 @@ module _ (world : World) (env : Values) where
   at_most_zero_means : (g : Lin) → M (at_most_zero g) ≡ Truth (int_le (value_of world env g) (pos 0))
   at_most_zero_means g = ap (λ z. Truth (int_le z (pos 0))) (of_lin_value world env g)
 
-  at_most_means : (g : Lin) → Good (g.parts) → M (at_most_tree g) ≡ Truth (int_le (value_of world env g) (pos 0))
+  at_most_means : (g : Lin) → Canonical (g.parts) → M (at_most_tree g) ≡ Truth (int_le (value_of world env g) (pos 0))
   at_most_means g k = go (is_number g) refl
     where
-      go : (b : Bool) → is_number g ≡ b → M (cond b (truth_tree (int_le (g.constant) (pos 0))) (at_most_zero (tight g))) ≡ Truth (int_le (value_of world env g) (pos 0))
+      go : (b : Bool) → is_number g ≡ b → M (cond b (truth_constant (int_le (g.constant) (pos 0))) (at_most_zero (tighten g))) ≡ Truth (int_le (value_of world env g) (pos 0))
       go true e = truth_means (int_le (g.constant) (pos 0)) ∙ ap (λ z. Truth (int_le z (pos 0))) (sym (number_value world env g e))
-      go false e = at_most_zero_means (tight g) ∙ ap Truth (tight_value world env g k e)
+      go false e = at_most_zero_means (tighten g) ∙ ap Truth (tighten_value world env IsAtom g k e)
 
-  zero_means : (g : Lin) → M (is_zero_form g) ≡ Truth (is_zero (value_of world env g))
+  zero_means : (g : Lin) → M (equals_zero g) ≡ Truth (is_zero (value_of world env g))
   zero_means g = ap (λ z. Truth (is_equal z (pos 0))) (of_lin_value world env g) ∙ ap Truth (zero_less (value_of world env g))
 
-  equal_means : (g : Lin) → Good (g.parts) → M (equal_tree g) ≡ Truth (is_zero (value_of world env g))
-  equal_means g k = go (is_number g) (divides (divisor (g.parts)) (g.constant)) refl refl
+  equal_means : (g : Lin) → Canonical (g.parts) → M (equal_tree g) ≡ Truth (is_zero (value_of world env g))
+  equal_means g k = go (is_number g) (divides (common_divisor (g.parts)) (g.constant)) refl refl
     where
-      go : (b c : Bool) → is_number g ≡ b → divides (divisor (g.parts)) (g.constant) ≡ c
-          → M (cond b (truth_tree (is_zero (g.constant))) (cond c (is_zero_form (turned (exact g))) false_tree)) ≡ Truth (is_zero (value_of world env g))
+      go : (b c : Bool) → is_number g ≡ b → divides (common_divisor (g.parts)) (g.constant) ≡ c
+          → M (cond b (truth_constant (is_zero (g.constant))) (cond c (equals_zero (make_lead_positive (divide_exact g))) false_tree)) ≡ Truth (is_zero (value_of world env g))
       go true c e d = truth_means (is_zero (g.constant)) ∙ ap (λ z. Truth (is_zero z)) (sym (number_value world env g e))
-      go false true e d = zero_means (turned (exact g)) ∙ ap Truth (turned_value world env (exact g) ∙ exact_value world env g k e d)
+      go false true e d = zero_means (make_lead_positive (divide_exact g)) ∙ ap Truth (lead_positive_value world env (divide_exact g) ∙ divide_exact_value world env IsAtom g k e d)
       go false false e d = ap Truth (sym (never_zero world env g d))
 
   -- the form of a difference
-  difference_value : (t u : Tree) (g : Lin) → cut (minus (lower t) (lower u)) ≡ Some g → value_of world env g ≡ V t -ℤ V u
+  difference_value : (t u : Tree) (g : Lin) → checked (subtract (to_lin t) (to_lin u)) ≡ Some g → value_of world env g ≡ V t -ℤ V u
   difference_value t u g e =
-      let a = lower_value world env t in
-      let b = lower_value world env u in
-      cut_value world env (minus (lower t) (lower u)) g e ∙ minus_value world env (lower t) (lower u) ∙ (λ i. a i -ℤ b i)
+      let a = to_lin_value world env t in
+      let b = to_lin_value world env u in
+      checked_value world env (subtract (to_lin t) (to_lin u)) g e ∙ subtract_value world env (to_lin t) (to_lin u) ∙ (λ i. a i -ℤ b i)
 
-  difference_good : (t u : Tree) (g : Lin) → Fixed step t → Fixed step u → cut (minus (lower t) (lower u)) ≡ Some g → Good (g.parts)
-  difference_good t u g f k e = (cut_good (minus (lower t) (lower u)) g (minus_good (lower t) (lower u) (lower_good t f) (lower_good u k)) e).0.0
+  difference_canonical : (t u : Tree) (g : Lin) → Fixed step t → Fixed step u → checked (subtract (to_lin t) (to_lin u)) ≡ Some g → Canonical (g.parts)
+  difference_canonical t u g f k e = (checked_canonical IsAtom (subtract (to_lin t) (to_lin u)) g (subtract_canonical IsAtom (to_lin t) (to_lin u) (to_lin_canonical t f) (to_lin_canonical u k)) e).0.0
 
   keeps_less : Keeps less_rule
-  keeps_less (h.Form form.Less) (more t (more u stop)) w f k =
+  keeps_less (h.Form rel.Less) (more t (more u stop)) w f k =
       let is : at_most (node (h.Term op.Add) (two t (num (pos 1)))) u ≡ w = cc in
       let e : V t +ℤ (pos 1 +ℤ pos 0) ≡ V t +ℤ pos 1 = refl in
       ap M (sym is) ∙ ap (λ z. Truth (int_le z (V u))) e ∙ ap Truth (lt_more (V t) (V u))
   keeps_less head ts w f k = absurd cc
 
   keeps_at_most : Keeps at_most_rule
-  keeps_at_most (h.Form form.AtMost) (more t (more u stop)) w f k = go (cut (minus (lower t) (lower u))) refl k
+  keeps_at_most (h.Form rel.AtMost) (more t (more u stop)) w f k = go (checked (subtract (to_lin t) (to_lin u))) refl k
     where
-      go : (o : Option Lin) → cut (minus (lower t) (lower u)) ≡ o → changed at_most_tree o (at_most t u) ≡ Some w → M w ≡ M (at_most t u)
+      go : (o : Option Lin) → checked (subtract (to_lin t) (to_lin u)) ≡ o → changed at_most_tree o (at_most t u) ≡ Some w → M w ≡ M (at_most t u)
       go None e r = absurd cc
       go (Some g) e r =
-          ap M (sym (differs_is (at_most_tree g) (at_most t u) w r)) ∙ at_most_means g (difference_good t u g f.0 f.1.0 e)
+          ap M (sym (unless_same_is (at_most_tree g) (at_most t u) w r)) ∙ at_most_means g (difference_canonical t u g f.0 f.1.0 e)
           ∙ ap (λ z. Truth (int_le z (pos 0))) (difference_value t u g e) ∙ ap Truth (le_difference (V t) (V u))
   keeps_at_most head ts w f k = absurd cc
 
-  keeps_equal : Keeps equal_rule
-  keeps_equal (h.Form form.Equal) (more t (more u stop)) w f k = go (cut (minus (lower t) (lower u))) refl k
+  keeps_equal : Keeps equality_rule
+  keeps_equal (h.Form rel.Equal) (more t (more u stop)) w f k = go (checked (subtract (to_lin t) (to_lin u))) refl k
     where
-      go : (o : Option Lin) → cut (minus (lower t) (lower u)) ≡ o → changed equal_tree o (equal t u) ≡ Some w → M w ≡ M (equal t u)
+      go : (o : Option Lin) → checked (subtract (to_lin t) (to_lin u)) ≡ o → changed equal_tree o (equal t u) ≡ Some w → M w ≡ M (equal t u)
       go None e r = absurd cc
       go (Some g) e r =
-          ap M (sym (differs_is (equal_tree g) (equal t u) w r)) ∙ equal_means g (difference_good t u g f.0 f.1.0 e)
+          ap M (sym (unless_same_is (equal_tree g) (equal t u) w r)) ∙ equal_means g (difference_canonical t u g f.0 f.1.0 e)
           ∙ ap (λ z. Truth (is_zero z)) (difference_value t u g e)
   keeps_equal head ts w f k = absurd cc
 
   -- ---- implication, equivalence, negation
 
-  keeps_imp : Keeps imp_rule
+  keeps_imp : Keeps implication_rule
   keeps_imp h.Imp (more a (more b stop)) w f k =
       let is : node h.Or (two (not_of a) b) ≡ w = cc in
       ap M (sym is) ∙ ap (λ z. Truth (not (so a) || z)) (or_false (so b))
   keeps_imp head ts w f k = absurd cc
 
-  keeps_iff : Keeps iff_rule
+  keeps_iff : Keeps equivalence_rule
   keeps_iff h.Iff (more a (more b stop)) w f k =
       let is : node h.And (two (node h.Or (two (not_of a) b)) (node h.Or (two a (not_of b)))) ≡ w = cc in
       ap M (sym is) ∙ ap Truth (both_ways (so a) (so b))
@@ -296,31 +298,31 @@ module _ (world : World) (env : Values) where
   nots_each stop = refl
   nots_each (more t ts) = ap (λ b. not (so t) && b) (nots_each ts) ∙ sym (not_or (so t) (some_so ts))
 
-  flip_means : (a u w : Tree) → flipped (at_most a u) ≡ Some w → M w ≡ Truth (not (so (at_most a u)))
-  flip_means a u w k = go (same u (num (pos 0))) refl k
+  negated_at_most_means : (a u w : Tree) → negated_relation (at_most a u) ≡ Some w → M w ≡ Truth (not (so (at_most a u)))
+  negated_at_most_means a u w k = go (same u (num (pos 0))) refl k
     where
-      at : u ≡ num (pos 0) → (o : Option Lin) → cut (minus (number (pos 1)) (lower a)) ≡ o → option_tree at_most_zero o ≡ Some w → M w ≡ Truth (not (so (at_most a u)))
+      at : u ≡ num (pos 0) → (o : Option Lin) → checked (subtract (number (pos 1)) (to_lin a)) ≡ o → option_map at_most_zero o ≡ Some w → M w ≡ Truth (not (so (at_most a u)))
       at z None e q = absurd cc
       at z (Some g) e q =
           let is : at_most_zero g ≡ w = cc in
           let one_value = number_value world env (number (pos 1)) refl in
-          let v = lower_value world env a in
-          ap M (sym is) ∙ at_most_zero_means g ∙ ap (λ z. Truth (int_le z (pos 0))) (cut_value world env (minus (number (pos 1)) (lower a)) g e ∙ minus_value world env (number (pos 1)) (lower a) ∙ (λ i. one_value i -ℤ v i))
+          let v = to_lin_value world env a in
+          ap M (sym is) ∙ at_most_zero_means g ∙ ap (λ z. Truth (int_le z (pos 0))) (checked_value world env (subtract (number (pos 1)) (to_lin a)) g e ∙ subtract_value world env (number (pos 1)) (to_lin a) ∙ (λ i. one_value i -ℤ v i))
           ∙ ap Truth (not_le (V a)) ∙ ap (λ t. Truth (not (int_le (V a) (V t)))) (sym z)
 
-      go : (b : Bool) → same u (num (pos 0)) ≡ b → cond b (option_tree at_most_zero (cut (minus (number (pos 1)) (lower a)))) None ≡ Some w → M w ≡ Truth (not (so (at_most a u)))
-      go true e q = at (same_exact u (num (pos 0)) e) (cut (minus (number (pos 1)) (lower a))) refl q
+      go : (b : Bool) → same u (num (pos 0)) ≡ b → cond b (option_map at_most_zero (checked (subtract (number (pos 1)) (to_lin a)))) None ≡ Some w → M w ≡ Truth (not (so (at_most a u)))
+      go true e q = at (same_exact u (num (pos 0)) e) (checked (subtract (number (pos 1)) (to_lin a))) refl q
       go false e q = absurd cc
 
-  flipped_means : (t w : Tree) → flipped t ≡ Some w → M w ≡ Truth (not (so t))
-  flipped_means (node (h.Form form.AtMost) (more a (more u stop))) w k = flip_means a u w k
-  flipped_means t w k = absurd cc
+  negated_relation_means : (t w : Tree) → negated_relation t ≡ Some w → M w ≡ Truth (not (so t))
+  negated_relation_means (node (h.Form rel.AtMost) (more a (more u stop))) w k = negated_at_most_means a u w k
+  negated_relation_means t w k = absurd cc
 
   inward_means : (t w : Tree) → inward (head_of t) (kids_in t) ≡ Some w → M w ≡ Truth (not (so t))
   inward_means (node h.True ts) w k = let is : false_tree ≡ w = cc in ap M (sym is)
   inward_means (node h.False ts) w k = let is : true_tree ≡ w = cc in ap M (sym is)
   inward_means (node h.Not (more f stop)) w k =
-      let p = so_is (is_formula (head_of f)) f w k in
+      let p = then_some_is (is_formula (head_of f)) f w k in
       ap M (sym p.1) ∙ formula_truth f p.0 ∙ ap Truth (sym (not_not (so f)))
   inward_means (node h.And ts) w k = let is : node h.Or (nots ts) ≡ w = cc in ap M (sym is) ∙ ap Truth (nots_some ts)
   inward_means (node h.Or ts) w k = let is : node h.And (nots ts) ≡ w = cc in ap M (sym is) ∙ ap Truth (nots_each ts)
@@ -330,10 +332,10 @@ module _ (world : World) (env : Values) where
   inward_means (node (h.Exists x) (more t (more u (more f stop)))) w k =
       let is : node (h.Forall x) (three t u (not_of f)) ≡ w = cc in
       ap M (sym is) ∙ ap Truth (all_not (V t) (to_nat (V u -ℤ V t)) (λ z. truth world (with_int env x z) f))
-  inward_means (node (h.Form o) ts) w k = flipped_means (node (h.Form o) ts) w k
+  inward_means (node (h.Form o) ts) w k = negated_relation_means (node (h.Form o) ts) w k
   inward_means t w k = absurd cc
 
-  keeps_not : Keeps not_rule
+  keeps_not : Keeps negation_rule
   keeps_not h.Not (more t stop) w f k = inward_means t w k
   keeps_not head ts w f k = absurd cc
 
@@ -343,14 +345,14 @@ module _ (world : World) (env : Values) where
   said b [] = b
   said b (t ∷ ts) = both b (so t) (said b ts)
 
-  joint_means : (b : Bool) (ts : List Tree) → M (joint b ts) ≡ Truth (said b ts)
+  junction_means : (b : Bool) (ts : List Tree) → M (junction b ts) ≡ Truth (said b ts)
   unfolding both
-  joint_means true ts = ap Truth (go ts)
+  junction_means true ts = ap Truth (go ts)
     where
       go : (us : List Tree) → each_so (trees_of us) ≡ said true us
       go [] = refl
       go (t ∷ us) = ap (λ b. so t && b) (go us)
-  joint_means false ts = ap Truth (go ts)
+  junction_means false ts = ap Truth (go ts)
     where
       go : (us : List Tree) → some_so (trees_of us) ≡ said false us
       go [] = refl
@@ -360,65 +362,65 @@ module _ (world : World) (env : Values) where
   said_append b [] us = sym (both_unit b (said b us))
   said_append b (t ∷ ts) us = ap (both b (so t)) (said_append b ts us) ∙ sym (both_assoc b (so t) (said b ts) (said b us))
 
-  -- a rule on the parts keeps what they say together
-  abbrev KeepsJoint : (Bool → List Tree → Option Tree) → Type 0
-  KeepsJoint rule = (b : Bool) (ts : List Tree) (w : Tree) → rule b ts ≡ Some w → M w ≡ Truth (said b ts)
+  -- a rule on the operands keeps what they say together
+  abbrev KeepsJunction : (Bool → List Tree → Option Tree) → Type 0
+  KeepsJunction rule = (b : Bool) (ts : List Tree) (w : Tree) → rule b ts ≡ Some w → M w ≡ Truth (said b ts)
 
-  at_joints_keep : (rule : Bool → List Tree → Option Tree) → KeepsJoint rule → Keeps (at_joints rule)
-  at_joints_keep rule keep h.And ts w f k = keep true (list_of ts) w k ∙ sym (joint_means true (list_of ts)) ∙ ap (λ us. M (node h.And us)) (trees_of-list_of ts)
-  at_joints_keep rule keep h.Or ts w f k = keep false (list_of ts) w k ∙ sym (joint_means false (list_of ts)) ∙ ap (λ us. M (node h.Or us)) (trees_of-list_of ts)
-  at_joints_keep rule keep head ts w f k = absurd cc
+  at_junctions_keep : (rule : Bool → List Tree → Option Tree) → KeepsJunction rule → Keeps (at_junctions rule)
+  at_junctions_keep rule cons_nonzero h.And ts w f k = cons_nonzero true (list_of ts) w k ∙ sym (junction_means true (list_of ts)) ∙ ap (λ us. M (node h.And us)) (trees_of-list_of ts)
+  at_junctions_keep rule cons_nonzero h.Or ts w f k = cons_nonzero false (list_of ts) w k ∙ sym (junction_means false (list_of ts)) ∙ ap (λ us. M (node h.Or us)) (trees_of-list_of ts)
+  at_junctions_keep rule cons_nonzero head ts w f k = absurd cc
 
-  -- the parts of a part of the same kind say what it says
-  parts_say : (b : Bool) (t : Tree) → is_joint b t ≡ true → said b (list_of (kids_in t)) ≡ so t
-  parts_say true (node h.And ts) k = ap is_so (sym (joint_means true (list_of ts))) ∙ ap (λ us. so (node h.And us)) (trees_of-list_of ts)
-  parts_say false (node h.Or ts) k = ap is_so (sym (joint_means false (list_of ts))) ∙ ap (λ us. so (node h.Or us)) (trees_of-list_of ts)
+  -- the operands of an operand of the same kind say what it says
+  parts_say : (b : Bool) (t : Tree) → is_junction b t ≡ true → said b (list_of (kids_in t)) ≡ so t
+  parts_say true (node h.And ts) k = ap is_so (sym (junction_means true (list_of ts))) ∙ ap (λ us. so (node h.And us)) (trees_of-list_of ts)
+  parts_say false (node h.Or ts) k = ap is_so (sym (junction_means false (list_of ts))) ∙ ap (λ us. so (node h.Or us)) (trees_of-list_of ts)
   parts_say b t k = absurd cc
 
-  flat_said : (b : Bool) (ts : List Tree) → said b (flattened b ts) ≡ said b ts
+  flat_said : (b : Bool) (ts : List Tree) → said b (flatten b ts) ≡ said b ts
   flat_said b [] = refl
-  flat_said b (t ∷ ts) = go (flat_said b ts) (is_joint b t) refl
+  flat_said b (t ∷ ts) = go (flat_said b ts) (is_junction b t) refl
     where
-      go : said b (flattened b ts) ≡ said b ts → (c : Bool) → is_joint b t ≡ c → said b (cond c (list_of (kids_in t)) (t ∷ []) ++ flattened b ts) ≡ both b (so t) (said b ts)
-      go r true e = let q = parts_say b t e in said_append b (list_of (kids_in t)) (flattened b ts) ∙ (λ i. both b (q i) (r i))
+      go : said b (flatten b ts) ≡ said b ts → (c : Bool) → is_junction b t ≡ c → said b (cond c (list_of (kids_in t)) (t ∷ []) ++ flatten b ts) ≡ both b (so t) (said b ts)
+      go r true e = let q = parts_say b t e in said_append b (list_of (kids_in t)) (flatten b ts) ∙ (λ i. both b (q i) (r i))
       go r false e = ap (both b (so t)) r
 
-  keeps_flatten : KeepsJoint flatten
-  keeps_flatten b ts w k =
-      let p = so_is (has (is_joint b) ts) (joint b (flattened b ts)) w k in
-      ap M (sym p.1) ∙ joint_means b (flattened b ts) ∙ ap Truth (flat_said b ts)
+  keeps_flat : KeepsJunction flat_rule
+  keeps_flat b ts w k =
+      let p = then_some_is (has (is_junction b) ts) (junction b (flatten b ts)) w k in
+      ap M (sym p.1) ∙ junction_means b (flatten b ts) ∙ ap Truth (flat_said b ts)
 
-  truth_said : (b : Bool) (t : Tree) → is_truth b t ≡ true → so t ≡ b
+  truth_said : (b : Bool) (t : Tree) → is_truth_constant b t ≡ true → so t ≡ b
   truth_said true (node h.True ts) k = refl
   truth_said false (node h.False ts) k = refl
   truth_said b t k = absurd cc
 
-  absorbed : (b : Bool) (ts : List Tree) → has (is_truth (not b)) ts ≡ true → said b ts ≡ not b
+  absorbed : (b : Bool) (ts : List Tree) → has (is_truth_constant (not b)) ts ≡ true → said b ts ≡ not b
   absorbed b [] k = absurd cc
-  absorbed b (t ∷ ts) k = elim (or_either (is_truth (not b) t) (has (is_truth (not b)) ts) k) [
+  absorbed b (t ∷ ts) k = elim (or_either (is_truth_constant (not b) t) (has (is_truth_constant (not b)) ts) k) [
     | inl e ↦ ap (λ c. both b c (said b ts)) (truth_said (not b) t e) ∙ both_absorber b (said b ts)
     | inr e ↦ ap (both b (so t)) (absorbed b ts e) ∙ both_comm b (so t) (not b) ∙ both_absorber b (so t)
   ]
 
-  keeps_absorb : KeepsJoint absorb
+  keeps_absorb : KeepsJunction absorbing_rule
   keeps_absorb b ts w k =
-      let p = so_is (has (is_truth (not b)) ts) (truth_tree (not b)) w k in
+      let p = then_some_is (has (is_truth_constant (not b)) ts) (truth_constant (not b)) w k in
       ap M (sym p.1) ∙ truth_means (not b) ∙ ap Truth (sym (absorbed b ts p.0))
 
-  without_said : (b : Bool) (ts : List Tree) → said b (without_units b ts) ≡ said b ts
+  without_said : (b : Bool) (ts : List Tree) → said b (drop_units b ts) ≡ said b ts
   without_said b [] = refl
-  without_said b (t ∷ ts) = go (without_said b ts) (is_truth b t) refl
+  without_said b (t ∷ ts) = go (without_said b ts) (is_truth_constant b t) refl
     where
-      go : said b (without_units b ts) ≡ said b ts → (c : Bool) → is_truth b t ≡ c → said b (cond c (without_units b ts) (t ∷ without_units b ts)) ≡ both b (so t) (said b ts)
+      go : said b (drop_units b ts) ≡ said b ts → (c : Bool) → is_truth_constant b t ≡ c → said b (cond c (drop_units b ts) (t ∷ drop_units b ts)) ≡ both b (so t) (said b ts)
       go r true e = r ∙ sym (ap (λ c. both b c (said b ts)) (truth_said b t e) ∙ both_unit b (said b ts))
       go r false e = ap (both b (so t)) r
 
-  keeps_units : KeepsJoint drop_units
+  keeps_units : KeepsJunction units_rule
   keeps_units b ts w k =
-      let p = so_is (has (is_truth b) ts) (joint b (without_units b ts)) w k in
-      ap M (sym p.1) ∙ joint_means b (without_units b ts) ∙ ap Truth (without_said b ts)
+      let p = then_some_is (has (is_truth_constant b) ts) (junction b (drop_units b ts)) w k in
+      ap M (sym p.1) ∙ junction_means b (drop_units b ts) ∙ ap Truth (without_said b ts)
 
-  -- a part that is there already says nothing more
+  -- an operand that is there already says nothing more
   among_said : (b : Bool) (t : Tree) (ts : List Tree) → among t ts ≡ true → both b (so t) (said b ts) ≡ said b ts
   among_said b t [] k = absurd cc
   among_said b t (u ∷ ts) k = elim (or_either (same t u) (among t ts) k) [
@@ -431,40 +433,40 @@ module _ (world : World) (env : Values) where
   one_said : (b : Bool) (t : Tree) → both b (so t) b ≡ so t
   one_said b t = both_comm b (so t) b ∙ both_unit b (so t)
 
-  fresh_said : (b : Bool) (seen ts : List Tree) → both b (said b seen) (said b (fresh seen ts)) ≡ both b (said b seen) (said b ts)
-  fresh_said b seen [] = refl
-  fresh_said b seen (t ∷ ts) = go (fresh_said b seen ts) (fresh_said b (seen ++ t ∷ []) ts) (among t seen) refl
+  drop_repeats_said : (b : Bool) (seen ts : List Tree) → both b (said b seen) (said b (drop_repeats seen ts)) ≡ both b (said b seen) (said b ts)
+  drop_repeats_said b seen [] = refl
+  drop_repeats_said b seen (t ∷ ts) = go (drop_repeats_said b seen ts) (drop_repeats_said b (seen ++ t ∷ []) ts) (among t seen) refl
     where
-      go : both b (said b seen) (said b (fresh seen ts)) ≡ both b (said b seen) (said b ts)
-          → both b (said b (seen ++ t ∷ [])) (said b (fresh (seen ++ t ∷ []) ts)) ≡ both b (said b (seen ++ t ∷ [])) (said b ts) → (c : Bool) → among t seen ≡ c → both b (said b seen) (said b (cond c (fresh seen ts) (t ∷ fresh (seen ++ t ∷ []) ts))) ≡ both b (said b seen) (both b (so t) (said b ts))
+      go : both b (said b seen) (said b (drop_repeats seen ts)) ≡ both b (said b seen) (said b ts)
+          → both b (said b (seen ++ t ∷ [])) (said b (drop_repeats (seen ++ t ∷ []) ts)) ≡ both b (said b (seen ++ t ∷ [])) (said b ts) → (c : Bool) → among t seen ≡ c → both b (said b seen) (said b (cond c (drop_repeats seen ts) (t ∷ drop_repeats (seen ++ t ∷ []) ts))) ≡ both b (said b seen) (both b (so t) (said b ts))
       go r q true e =
           r ∙ ap (λ c. both b c (said b ts)) (sym (both_comm b (said b seen) (so t) ∙ among_said b t seen e))
           ∙ both_assoc b (said b seen) (so t) (said b ts)
       go r q false e =
           let more_said = said_append b seen (t ∷ []) ∙ ap (both b (said b seen)) (one_said b t) in
-          sym (both_assoc b (said b seen) (so t) (said b (fresh (seen ++ t ∷ []) ts))) ∙ ap (λ c. both b c (said b (fresh (seen ++ t ∷ []) ts))) (sym more_said)
+          sym (both_assoc b (said b seen) (so t) (said b (drop_repeats (seen ++ t ∷ []) ts))) ∙ ap (λ c. both b c (said b (drop_repeats (seen ++ t ∷ []) ts))) (sym more_said)
           ∙ q ∙ ap (λ c. both b c (said b ts)) more_said ∙ both_assoc b (said b seen) (so t) (said b ts)
 
-  keeps_repeats : KeepsJoint drop_repeats
+  keeps_repeats : KeepsJunction repeats_rule
   keeps_repeats b ts w k =
-      let p = so_is (has_repeat [] ts) (joint b (fresh [] ts)) w k in
-      ap M (sym p.1) ∙ joint_means b (fresh [] ts) ∙ ap Truth (sym (both_unit b (said b (fresh [] ts))) ∙ fresh_said b [] ts ∙ both_unit b (said b ts))
+      let p = then_some_is (has_repeat [] ts) (junction b (drop_repeats [] ts)) w k in
+      ap M (sym p.1) ∙ junction_means b (drop_repeats [] ts) ∙ ap Truth (sym (both_unit b (said b (drop_repeats [] ts))) ∙ drop_repeats_said b [] ts ∙ both_unit b (said b ts))
 
-  -- a part and its `not`
+  -- an operand and its `not`
   opposite_said : (b : Bool) (t w : Tree) (ts : List Tree) → M w ≡ Truth (not (so t)) → among w ts ≡ true → both b (so t) (said b ts) ≡ not b
   opposite_said b t w ts e k =
       ap (both b (so t)) (sym (among_said b w ts k)) ∙ sym (both_assoc b (so t) (so w) (said b ts))
       ∙ ap (λ c. both b (both b (so t) c) (said b ts)) (ap is_so e) ∙ ap (λ c. both b c (said b ts)) (both_opposed b (so t)) ∙ both_absorber b (said b ts)
 
   opposed_at : (b : Bool) (t : Tree) (ts : List Tree) → is_opposed ts t ≡ true → both b (so t) (said b ts) ≡ not b
-  opposed_at b t ts k = elim (or_either (among (not_of t) ts) (among_some (flipped t) ts) k) [
+  opposed_at b t ts k = elim (or_either (among (not_of t) ts) (among_some (negated_relation t) ts) k) [
     | inl e ↦ opposite_said b t (not_of t) ts refl e
-    | inr e ↦ go (flipped t) refl e
+    | inr e ↦ go (negated_relation t) refl e
   ]
     where
-      go : (o : Option Tree) → flipped t ≡ o → among_some o ts ≡ true → both b (so t) (said b ts) ≡ not b
+      go : (o : Option Tree) → negated_relation t ≡ o → among_some o ts ≡ true → both b (so t) (said b ts) ≡ not b
       go None e q = absurd cc
-      go (Some w) e q = opposite_said b t w ts (flipped_means t w e) q
+      go (Some w) e q = opposite_said b t w ts (negated_relation_means t w e) q
 
   opposed : (b : Bool) (all ts : List Tree) → has (is_opposed all) ts ≡ true → both b (said b ts) (said b all) ≡ not b
   opposed b all [] k = absurd cc
@@ -482,17 +484,17 @@ module _ (world : World) (env : Values) where
   both_same false true = refl
   both_same false false = refl
 
-  keeps_oppose : KeepsJoint oppose
+  keeps_oppose : KeepsJunction opposites_rule
   keeps_oppose b ts w k =
-      let p = so_is (has (is_opposed ts) ts) (truth_tree (not b)) w k in
+      let p = then_some_is (has (is_opposed ts) ts) (truth_constant (not b)) w k in
       ap M (sym p.1) ∙ truth_means (not b) ∙ ap Truth (sym (sym (both_same b (said b ts)) ∙ opposed b ts ts p.0))
 
-  keeps_alone : KeepsJoint alone
-  keeps_alone b [] w k = let is : truth_tree b ≡ w = cc in ap M (sym is) ∙ truth_means b
-  keeps_alone b (t ∷ []) w k =
-      let p = so_is (is_formula (head_of t)) t w k in
+  keeps_single : KeepsJunction single_rule
+  keeps_single b [] w k = let is : truth_constant b ≡ w = cc in ap M (sym is) ∙ truth_means b
+  keeps_single b (t ∷ []) w k =
+      let p = then_some_is (is_formula (head_of t)) t w k in
       ap M (sym p.1) ∙ formula_truth t p.0 ∙ ap Truth (sym (one_said b t))
-  keeps_alone b (t ∷ u ∷ ts) w k = absurd cc
+  keeps_single b (t ∷ u ∷ ts) w k = absurd cc
 
   -- ---- the table
 
@@ -525,7 +527,7 @@ module _ (world : World) (env : Values) where
                     keeps_iff,
                     (
                       keeps_not,
-                      (at_joints_keep flatten keeps_flatten, (at_joints_keep absorb keeps_absorb, (at_joints_keep drop_units keeps_units, (at_joints_keep drop_repeats keeps_repeats, (at_joints_keep oppose keeps_oppose, (at_joints_keep alone keeps_alone, tt)))))),
+                      (at_junctions_keep flat_rule keeps_flat, (at_junctions_keep absorbing_rule keeps_absorb, (at_junctions_keep units_rule keeps_units, (at_junctions_keep repeats_rule keeps_repeats, (at_junctions_keep opposites_rule keeps_oppose, (at_junctions_keep single_rule keeps_single, tt)))))),
                     ),
                   ),
                 ),

@@ -3,7 +3,7 @@ use Rattle.std.specs.Prelude.{◌≡◌, Option, Some, None}
 use Rattle.qed_terms.specs.declared.head.Head.{Head}
 use Rattle.qed_terms.specs.Tree.{Tree, node, Trees, stop, more}
 use Rattle.qed_terms.specs.Meaning.{World, Values, meaning}
-use Rattle.qed_simplify.specs.Rules.{step}
+use Rattle.qed_rules.specs.Rules.{step}
 
 mutual
   -- kids come first, from the left; where a rule changes the node, its result is brought to normal form in the same way

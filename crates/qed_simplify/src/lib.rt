@@ -1,17 +1,6 @@
-//! Floor 4, logic: the normal form of formulas: linear forms of terms, relations with 0, negation inward, and flat `and` and `or`.
+//! Floor 4, logic: the normal form of formulas, and its laws.
 #![tactic(auto)]
 
-mod divide;
-mod forms;
-mod formulas;
-mod joints;
-mod lowers;
-mod negations;
-mod quantifiers;
-mod relations;
-mod sums;
-mod truths;
-mod walk;
-mod wide;
+mod normal_form;
 
-pub use formulas::{normal, normal_is_one, normal_is_settled, normal_keeps_meaning};
+pub use normal_form::{normal, normal_is_one, normal_is_settled, normal_keeps_meaning};

@@ -3,7 +3,7 @@ use Rattle.std.proofs.Common.{◌≡◌, ℕ, zero, suc, ◌+◌, ◌<◌, Bool,
 use Rattle.std.specs.Prelude.{slice_get}
 use Rattle.std.proofs.lemmas.List.{take_more, map_push, map-append}
 use Rattle.qed_terms.specs.Tree.{Tree, true_tree}
-use Rattle.qed_simplify.specs.Rules.{step}
+use Rattle.qed_rules.specs.Rules.{step}
 use Rattle.qed_simplify.specs.Normal.{Normal}
 use Rattle.qed_simplify.proofs.Derived.{one_normal}
 use Rattle.wp_calculus.specs.View.{PlainGoal, plain}

@@ -11,7 +11,7 @@ use Rattle.qed_terms.specs.Tree.{Tree, true_tree, goal_of}
 use Rattle.core_prog.specs.Tree.{Function, Program}
 use Rattle.c_front.specs.Text.{Spells}
 use Rattle.c_front.specs.Text as front
-use Rattle.qed_simplify.specs.Rules.{step}
+use Rattle.qed_rules.specs.Rules.{step}
 use Rattle.qed_simplify.specs.Normal.{Normal}
 use Rattle.goal_text.specs.Text.{goal_text}
 use Rattle.wp_calculus.specs.Segments.{Place}

@@ -1,0 +1,10 @@
+pub mod Built
+pub mod Canonical
+pub mod Divisors
+pub mod Facts
+pub mod Places
+pub mod Ring
+pub mod Rounding
+pub mod SumSteps
+pub mod TermForms
+pub mod Values

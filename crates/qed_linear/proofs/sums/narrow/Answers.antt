@@ -1,0 +1,42 @@
+use Rattle.std.proofs.Common.{length, sym, ◌∙◌, ap, refl, arith, rules, FitsSigned}
+use Rattle.std.specs.Int.{w128}
+use Rattle.std.proofs.lemmas.Int.{to_z-of_z}
+use Rattle.qed_terms.specs.View.{term_tree}
+use Rattle.qed_linear.specs.View.{parts_of, wide_value, wide_lin}
+use Rattle.qed_linear.proofs.SumSteps.{narrowed_more, fit_more, narrow_fails, narrow_refuses, narrow_done, last_fails}
+use Rattle.qed_linear.proofs.Places.{none_left}
+use Rattle.qed_linear.proofs.sums.narrow.Goals as goal
+
+pub loop-part-preserved : goal.loop-part-preserved
+loop-part-preserved c =
+    let w = c.in-Some.part in
+    let z = c.in-Some-narrow.times in
+    let fits : FitsSigned w128 z = search rules in
+    let e = to_z-of_z w128 z fits in
+    let ls = c.loop-part.parts.items in
+    let ls' = c.push_part.new.parts.items in
+    let g = rw e at c.in_ok-push_part-in-Some-narrow.ensures in
+    record {
+      count = omega (arith, ap length c.in-Some.ensures.steps.0);
+      so_far = narrowed_more ls ls' w c.loop-part.part-iterator.rest.items c.next.new.self.rest.items c.args.sum.parts.items (term_tree w.atom) z c.loop-part.invariant.so_far c.in-Some.ensures.steps.0 refl c.in-Some-narrow.ensures.1 g;
+      hold = fit_more (parts_of ls) (parts_of ls') (term_tree w.atom) z c.loop-part.invariant.hold (sym c.is_integer.ensures ∙ c.if-not-is_integer.false) fits g;
+    }
+
+pub returns-then-not-is_integer : goal.returns-then-not-is_integer
+returns-then-not-is_integer c =
+    narrow_refuses c.loop-part.parts.items c.in-Some.part c.loop-part.part-iterator.rest.items c.next.new.self.rest.items c.args.sum.parts.items (wide_value c.args.sum.constant) c.loop-part.invariant.so_far c.in-Some.ensures.steps.0 (sym c.is_integer.ensures ∙ c.if-not-is_integer.true)
+
+pub returns-in-None-narrow : goal.returns-in-None-narrow
+returns-in-None-narrow c =
+    narrow_fails c.loop-part.parts.items c.in-Some.part c.loop-part.part-iterator.rest.items c.next.new.self.rest.items c.args.sum.parts.items (wide_value c.args.sum.constant) c.loop-part.invariant.so_far c.in-Some.ensures.steps.0 c.in-None-narrow.ensures
+
+pub returns-in-Some-narrow-2 : goal.returns-in-Some-narrow-2
+returns-in-Some-narrow-2 c =
+    let z = c.in-Some-narrow-2.constant in
+    let fits : FitsSigned w128 z = search rules in
+    let e = to_z-of_z w128 z fits in
+    let none = none_left c.loop-part.part-iterator.rest.items (omega (arith, c.in-None.ensures.steps.0)) in
+    rw e (narrow_done c.loop-part.parts.items c.loop-part.part-iterator.rest.items c.args.sum.parts.items z (wide_value c.args.sum.constant) c.loop-part.invariant.so_far none c.loop-part.invariant.hold c.in-Some-narrow-2.ensures.1 fits)
+
+pub returns-in-None-narrow-2 : goal.returns-in-None-narrow-2
+returns-in-None-narrow-2 c = last_fails (wide_lin c.args.sum) c.in-None-narrow-2.ensures

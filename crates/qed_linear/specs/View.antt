@@ -1,0 +1,44 @@
+-- The forms and the sums that the program holds, as plain ones.
+use Rattle.std.specs.Prelude.{◌≡◌, ℕ, ◌+◌, slice_index_or, Bool, true, false, ℤ, pos, negsuc, ◌+ℤ◌, ◌*ℤ◌, List, ◌++◌, map, take, drop}
+use Rattle.qed_terms.specs.View.{term_tree}
+use Rattle.qed_linear.specs.declared.wide.Wide.{Wide}
+use Rattle.qed_linear.specs.declared.forms.LinPart.{LinPart}
+use Rattle.qed_linear.specs.declared.forms.LinForm.{LinForm}
+use Rattle.qed_linear.specs.declared.sums.WidePart.{WidePart}
+use Rattle.qed_linear.specs.declared.sums.WideForm.{WideForm}
+use Rattle.qed_linear.specs.Linear.{Part, Lin, part, lin, cons_nonzero, scale}
+
+abbrev pub part_of : LinPart → Part
+part_of p = part (term_tree p.atom) p.times
+
+abbrev pub parts_of : List LinPart → List Part
+parts_of ps = map part_of ps
+
+abbrev pub lin_of : LinForm → Lin
+lin_of f = lin (parts_of f.parts.items) f.constant
+
+-- 2^128 to a turn
+abbrev pub wide_value : Wide → ℤ
+wide_value w = w.low +ℤ w.turns *ℤ pos 340282366920938463463374607431768211456
+
+abbrev pub wide_part : WidePart → Part
+wide_part p = part (term_tree p.atom) (wide_value p.times)
+
+abbrev pub wide_parts : List WidePart → List Part
+wide_parts ps = map wide_part ps
+
+abbrev pub wide_lin : WideForm → Lin
+wide_lin f = lin (wide_parts f.parts.items) (wide_value f.constant)
+
+-- a number, or its negative
+abbrev pub signed_value : Bool → ℤ → ℤ
+signed_value true z = negsuc 0 *ℤ z
+signed_value false z = z
+
+abbrev pub signed : Bool → Lin → Lin
+signed true f = scale (negsuc 0) f
+signed false f = f
+
+-- the part at this place, from 0, has that much more, and isn't kept where it is then 0
+abbrev pub IsAddedAt : List WidePart → ℕ → ℤ → List WidePart → Type 0
+IsAddedAt ps i c qs = (p : WidePart) → p ≡ slice_index_or ps i p → wide_parts qs ≡ wide_parts (take i ps) ++ cons_nonzero (term_tree p.atom) (c +ℤ wide_value p.times) (wide_parts (drop (i + 1) ps))

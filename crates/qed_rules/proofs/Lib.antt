@@ -1,0 +1,3 @@
+pub mod FormulaPasses
+pub mod RelationPasses
+pub mod TermPasses

@@ -1,9 +1,0 @@
-use Rattle.std.proofs.Common.{◌≡◌, map, ◌++◌}
-use Rattle.qed_terms.specs.View.{term_tree}
-use Rattle.qed_simplify.specs.Linear.{part_tree}
-use Rattle.qed_simplify.specs.View.{parts_of}
-use Rattle.qed_simplify.proofs.forms.terms_of_parts.Given as goal
-
--- the terms so far, and those of the parts that are left
-abbrev pub invariant-loop-part : goal.invariant-loop-part
-invariant-loop-part l = map term_tree l.terms.items ++ map part_tree (parts_of l.part-iterator.rest.items) ≡ map part_tree (parts_of l.fn.parts.items)

@@ -1,0 +1,5 @@
+use Rattle.qed_simplify.proofs.Laws.{normal_is_settled}
+use Rattle.qed_simplify.proofs.normal_form.normal_is_settled.Goals as goal
+
+pub returns : goal.returns
+returns c = normal_is_settled

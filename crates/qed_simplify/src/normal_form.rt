@@ -1,0 +1,37 @@
+// The normal form of a formula, and its laws.
+ghost use Rattle.std.specs.Prelude.{◌≡◌, IfOk};
+ghost use Rattle.qed_terms.specs.Meaning.{World, Values, truth};
+ghost use Rattle.qed_terms.specs.View.{formula_tree};
+ghost use Rattle.qed_rules.specs.Rules.{step};
+ghost use Rattle.qed_simplify.specs.Normal.{Normal, NormalIsOne, NormalIsSettled, NormalKeepsMeaning};
+
+use qed_rules::normalise;
+use qed_terms::Formula;
+use std::alloc::Global;
+use wp_base::NoMemory;
+
+/// The normal form of a formula: kids first, from the left, and at each node the first rule of the table that changes
+/// it, whose result is brought to normal form in the same way.
+#[tactic(auto, using(crate::proofs::Laws::passes_normal, crate::proofs::Laws::passes_keep))]
+pub fn normal(alloc: Global, formula: &Formula) -> Result<Formula, NoMemory>
+    ensures normal { IfOk result (λ r. Normal step (formula_tree formula.now) (formula_tree r)) }
+    ensures same { IfOk result (λ r. (w : World) (env : Values) → truth w env (formula_tree r) ≡ truth w env (formula_tree formula.now)) }
+{
+    let normal = normalise(alloc, formula)?;
+    Ok(normal)
+}
+
+/// A tree has one normal form.
+pub fn normal_is_one()
+    ensures { NormalIsOne }
+{}
+
+/// A normal form is its own.
+pub fn normal_is_settled()
+    ensures { NormalIsSettled }
+{}
+
+/// A normal form means what the tree means.
+pub fn normal_keeps_meaning()
+    ensures { NormalKeepsMeaning }
+{}

@@ -24,6 +24,7 @@ pub use laws::{
     division_truncates, fresh_names_are_new, fresh_names_differ, meaning_of_free_names,
     order_is_total,
 };
+pub use node::Node;
 pub use setting::{LogicFn, Setting};
 pub use store::TermStore;
 pub use term::{Formula, Goal, Term};

@@ -11,8 +11,9 @@ use crate::term::{Formula, Term};
 use std::alloc::Global;
 use wp_base::{List, NoMemory};
 
+/// A term or a formula by reference, so that a walk sees a head and its kids.
 #[derive(Clone, Copy)]
-pub(crate) enum Node<'a> {
+pub enum Node<'a> {
     Term(&'a Term),
     Formula(&'a Formula),
 }
@@ -34,8 +35,9 @@ fn formula_at(formulas: &List<Formula>, at: usize) -> Node<'_>
 }
 
 impl<'a> Node<'a> {
+    /// How many kids it has.
     #[tactic(auto, using(crate::proofs::Equations::tree_laws, crate::proofs::Kids::kid_laws))]
-    pub(crate) fn kid_count(self) -> usize
+    pub fn kid_count(self) -> usize
         ensures { result ≡ length (kids_of (node_tree self.entry)) }
     {
         match self {
@@ -61,8 +63,9 @@ impl<'a> Node<'a> {
         }
     }
 
+    /// The kid at a place, from 0.
     #[tactic(auto, using(crate::proofs::Equations::tree_laws, crate::proofs::Kids::kid_laws))]
-    pub(crate) fn kid(self, at: usize) -> Node<'a>
+    pub fn kid(self, at: usize) -> Node<'a>
         requires { at < length (kids_of (node_tree self)) }
         ensures { node_tree result ≡ slice_index_or (kids_of (node_tree self.entry)) at true_tree }
     {

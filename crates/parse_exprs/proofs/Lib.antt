@@ -1,6 +1,7 @@
-pub mod Reading
-pub mod Tokens
-pub mod Sound
-pub mod First
 pub mod Complete
+pub mod First
 pub mod Laws
+pub mod Reading
+pub mod Sound
+pub mod SoundPrimaries
+pub mod Tokens

@@ -13,7 +13,7 @@ use Rattle.c_grammar.specs.Reading.{punct_at}
 use Rattle.c_grammar.proofs.Levels.{Ends, ends_fewer}
 use Rattle.parse_terms.specs.Read as r
 use Rattle.parse_terms.specs.Next as n
-use Rattle.parse_terms.proofs.Complete.{Stops, Follows, EndsList, looser_operator}
+use Rattle.parse_terms.proofs.CompleteParts.{Stops, Follows, EndsList, looser_operator}
 
 -- what ends a term, and no `+`
 abbrev EndsTerm : List Token → Type 0

@@ -12,8 +12,10 @@ use Rattle.c_grammar.proofs.Levels.{reads_all}
 use Rattle.parse_terms.specs.Read as r
 use Rattle.parse_terms.specs.Read.{term_at, chain_term_at, some_terms_at, pointer_at, entry_at}
 use Rattle.parse_terms.specs.Next.{ends_term, ends_chain_term, ends_terms, continues, begins_chain}
-use Rattle.parse_terms.proofs.Sound.{SpellsSum, no_range, with_range, terms_sound, binary_sound, spread_term_sound, read_sound, inner_sound}
-use Rattle.parse_terms.proofs.Complete.{Stops, term_reads, binary_reads, some_read, spread_read}
+use Rattle.parse_terms.proofs.SoundParts.{terms_sound}
+use Rattle.parse_terms.proofs.Sound.{SpellsSum, no_range, with_range, binary_sound, spread_term_sound, read_sound, inner_sound}
+use Rattle.parse_terms.proofs.CompleteParts.{Stops}
+use Rattle.parse_terms.proofs.Complete.{term_reads, binary_reads, some_read, spread_read}
 use Rattle.parse_terms.proofs.Ends.{term_ends, list_ends, chain_ends}
 use Rattle.parse_terms.proofs.Neutral as neutral
 use Rattle.parse_terms.proofs.Begins as begins

@@ -1,5 +1,5 @@
 -- Each rule keeps the meaning.
-use Rattle.std.proofs.Common.{◌≡◌, ℕ, zero, suc, inl, inr, Bool, true, false, not, ◌&&◌, ◌||◌, cond, ℤ, pos, ◌+ℤ◌, ◌-ℤ◌, int_le, List, [], ◌∷◌, ◌++◌, map, refl, sym, ◌∙◌, ap}
+use Rattle.std.proofs.Common.{◌≡◌, inl, inr, Bool, true, false, not, ◌&&◌, ◌||◌, cond, ℤ, pos, ◌+ℤ◌, ◌-ℤ◌, int_le, List, [], ◌∷◌, ◌++◌, map, refl, sym, ◌∙◌, ap}
 use Rattle.std.specs.Prelude.{Option, Some, None, option_map}
 use Rattle.qed_terms.specs.declared.head.Head.{Head}
 use Rattle.qed_terms.specs.declared.head.Head.TheVariants as h
@@ -8,8 +8,8 @@ use Rattle.qed_terms.specs.declared.head.FormOp.TheVariants as rel
 use Rattle.qed_terms.specs.declared.head.Sort.TheVariants as sort
 use Rattle.qed_terms.specs.Tree.{Tree, node, Trees, stop, more, trees_of, list_of, head_of, kids_in, two, three, num, at_most, equal, true_tree, false_tree, not_of}
 use Rattle.qed_terms.specs.Operators.{is_zero, is_equal}
-use Rattle.wp_base.specs.Blocks.{to_nat, same_truth}
-use Rattle.qed_terms.specs.Meaning.{World, Values, with_int, Value, Whole, Truth, is_so, value, truth, meaning, meanings, each_true, some_true, all_from, some_from}
+use Rattle.wp_base.specs.Blocks.{to_nat}
+use Rattle.qed_terms.specs.Meaning.{World, Values, with_int, Value, Whole, Truth, is_so, value, truth, meaning, meanings, each_true, some_true}
 use Rattle.qed_terms.proofs.Lists.{trees_of-list_of}
 use Rattle.qed_terms.specs.Order.{same}
 use Rattle.qed_linear.specs.Linear.{fits, Part, Lin, lin, number, is_number, part_tree, sum_tree, of_lin, subtract, is_integer, parts_fit, checked, head_form, to_lin, to_lins, common_divisor, divides, tighten, divide_exact, make_lead_positive}
@@ -22,85 +22,7 @@ use Rattle.qed_simplify.proofs.Derived.{Fixed, AllFixed}
 use Rattle.qed_simplify.proofs.Settled.{Canonical, to_lin_canonical, to_lins_canonical, IsAtom}
 use Rattle.qed_linear.proofs.Canonical.{checked_canonical, subtract_canonical, head_form_canonical}
 use Rattle.qed_linear.proofs.Values.{value_of, subtract_value, checked_value, number_value, to_lin_value, head_form_value, of_lin_value, tighten_value, divide_exact_value, never_zero, lead_positive_value}
-
--- ---- truth values
-
-pub both : Bool → Bool → Bool → Bool
-both true a c = a && c
-both false a c = a || c
-
-both_assoc : (b x y z : Bool) → both b (both b x y) z ≡ both b x (both b y z)
-unfolding both
-both_assoc true true y z = refl
-both_assoc true false y z = refl
-both_assoc false true y z = refl
-both_assoc false false y z = refl
-
-both_comm : (b x y : Bool) → both b x y ≡ both b y x
-unfolding both
-both_comm true true true = refl
-both_comm true true false = refl
-both_comm true false true = refl
-both_comm true false false = refl
-both_comm false true true = refl
-both_comm false true false = refl
-both_comm false false true = refl
-both_comm false false false = refl
-
-both_unit : (b x : Bool) → both b b x ≡ x
-unfolding both
-both_unit true x = refl
-both_unit false x = refl
-
-both_absorber : (b x : Bool) → both b (not b) x ≡ not b
-unfolding both
-both_absorber true x = refl
-both_absorber false x = refl
-
-both_itself : (b x y : Bool) → both b x (both b x y) ≡ both b x y
-unfolding both
-both_itself true true y = refl
-both_itself true false y = refl
-both_itself false true y = refl
-both_itself false false y = refl
-
-both_opposed : (b x : Bool) → both b x (not x) ≡ not b
-unfolding both
-both_opposed true true = refl
-both_opposed true false = refl
-both_opposed false true = refl
-both_opposed false false = refl
-
-not_and : (a b : Bool) → not (a && b) ≡ not a || not b
-not_and true b = refl
-not_and false b = refl
-
-not_or : (a b : Bool) → not (a || b) ≡ not a && not b
-not_or true b = refl
-not_or false b = refl
-
-not_not : (a : Bool) → not (not a) ≡ a
-not_not true = refl
-not_not false = refl
-
-or_false : (a : Bool) → a || false ≡ a
-or_false true = refl
-or_false false = refl
-
-both_ways : (a b : Bool) → (not a || (b || false)) && ((a || (not b || false)) && true) ≡ same_truth a b
-both_ways true true = refl
-both_ways true false = refl
-both_ways false true = refl
-both_ways false false = refl
-
--- some number fails exactly where not all pass
-some_not : (z : ℤ) (n : ℕ) (test : ℤ → Bool) → some_from z n (λ y. not (test y)) ≡ not (all_from z n test)
-some_not z zero test = refl
-some_not z (suc n) test = ap (λ b. not (test z) || b) (some_not (z +ℤ pos 1) n test) ∙ sym (not_and (test z) (all_from (z +ℤ pos 1) n test))
-
-all_not : (z : ℤ) (n : ℕ) (test : ℤ → Bool) → all_from z n (λ y. not (test y)) ≡ not (some_from z n test)
-all_not z zero test = refl
-all_not z (suc n) test = ap (λ b. not (test z) && b) (all_not (z +ℤ pos 1) n test) ∙ sym (not_or (test z) (some_from (z +ℤ pos 1) n test))
+use Rattle.qed_simplify.proofs.Truths.{both, both_assoc, both_comm, both_unit, both_absorber, both_itself, both_opposed, not_and, not_or, not_not, or_false, both_ways, some_not, all_not}
 
 module _ (world : World) (env : Values) where
   abbrev M : Tree → Value

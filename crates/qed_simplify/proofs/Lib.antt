@@ -6,4 +6,5 @@ pub mod Laws
 pub mod Relations
 pub mod Settled
 pub mod Tests
+pub mod Truths
 pub mod Walk

@@ -1,57 +1,118 @@
-// What the tests share: files and sinks in memory, and runs over them.
-ghost use Rattle.std.specs.Prelude.{◌≡◌, ◌<◌};
+// Runs of the top call.
+ghost use Rattle.std.specs.Prelude.{◌<◌};
 
+use crate::settings::{Setting, word_of, words_of};
 use std::alloc::Global;
+use test_lines::Page;
 use wp_base::{List, NoMemory, Status, Str};
 use wp_cli::wp_main;
-use wp_io::{MemFiles, MemSink};
+use wp_io::{MemFiles, MemSink, StillFiles, StillSink};
 
-pub const NAME: &[u8] = b"p.c";
-
-/// Room for all that the tests write.
-pub const ROOM: usize = 4096;
-
-fn texts(alloc: Global, texts: &[&[u8]]) -> Result<List<Str>, NoMemory> {
+fn one<T: Drop>(alloc: Global, item: T) -> Result<List<T>, NoMemory> {
     let mut list = List::new(alloc);
-    for text in texts {
-        list.push(Str::from_bytes(alloc, text)?)?;
-    }
+    list.push(item)?;
     Ok(list)
 }
 
-fn numbers(alloc: Global, numbers: &[u64]) -> Result<List<u64>, NoMemory> {
-    Ok(List::from_vec(Vec::from_slice(alloc, numbers)?))
+// One file with this text.
+fn file_of(alloc: Global, setting: &Setting<'_>, text: &[u8]) -> Result<MemFiles, NoMemory>
+    requires { 0 < setting.now.piece }
+{
+    let names = one(alloc, word_of(alloc, setting.file)?)?;
+    let texts = one(alloc, Str::from_bytes(alloc, text)?)?;
+    Ok(MemFiles::new(names, texts, setting.piece, one(alloc, setting.fail)?))
 }
 
-/// One file of this name with this text, given by pieces; the calls with these numbers fail.
-pub fn file(
+pub fn sink_of(alloc: Global, setting: &Setting<'_>) -> Result<MemSink, NoMemory>
+    requires { 0 < setting.now.by }
+{
+    MemSink::new(alloc, setting.room, setting.by, one(alloc, setting.stop)?)
+}
+
+fn tell_whether(page: &mut Page, holds: bool) {
+    page.put(if holds { " yes" } else { " no" });
+}
+
+// The status, how many calls failed, and whether there were any: of the files and of the sink; and what was written.
+fn tell_run(page: &mut Page, status: Status, files: &MemFiles, out: &MemSink) {
+    page.put(" ");
+    page.put_number(status.code());
+    page.put(", faults ");
+    page.put_number(files.faults);
+    page.put(" ");
+    page.put_number(out.faults);
+    page.put(", called");
+    tell_whether(page, files.calls > 0);
+    tell_whether(page, out.calls > 0);
+    page.put(": ");
+    page.put_in_line(out.taken.as_slice());
+}
+
+pub fn run_case(
     alloc: Global,
-    name: &[u8],
+    page: &mut Page,
+    setting: &Setting<'_>,
     text: &[u8],
-    piece: usize,
-    fail: &[u64],
-) -> Result<MemFiles, NoMemory>
-    requires { 0 < piece }
+) -> Result<(), NoMemory>
+    requires piece { 0 < setting.now.piece }
+    requires by { 0 < setting.now.by }
 {
-    let names = texts(alloc, &[name])?;
-    let contents = texts(alloc, &[text])?;
-    Ok(MemFiles::new(names, contents, piece, numbers(alloc, fail)?))
+    let words = words_of(alloc, setting.words)?;
+    let mut files = file_of(alloc, setting, text)?;
+    let mut out = sink_of(alloc, setting)?;
+    let status = wp_main(alloc, words.as_slice(), &mut files, &mut out);
+    tell_run(page, status, &files, &out);
+    Ok(())
 }
 
-/// An empty sink, which takes pieces up to its room; the calls with these numbers fail.
-pub fn sink(alloc: Global, room: usize, piece: usize, fail: &[u64]) -> Result<MemSink, NoMemory>
-    requires { 0 < piece }
-{
-    MemSink::new(alloc, room, piece, numbers(alloc, fail)?)
-}
-
-/// A run on these words.
-pub fn run(
+pub fn still_run(
     alloc: Global,
-    words: &[&[u8]],
+    page: &mut Page,
+    setting: &Setting<'_>,
+    text: &[u8],
+) -> Result<(), NoMemory> {
+    let words = words_of(alloc, setting.words)?;
+    let mut files = StillFiles::new(Str::from_bytes(alloc, text)?);
+    let mut out = StillSink::new();
+    let status = wp_main(alloc, words.as_slice(), &mut files, &mut out);
+    page.put(" ");
+    page.put_number(status.code());
+    page.put(", bytes ");
+    page.put_number(out.given);
+    Ok(())
+}
+
+// A run over files and a sink that were used before.
+fn again(
+    alloc: Global,
+    page: &mut Page,
+    words: &List<Str>,
     files: &mut MemFiles,
     out: &mut MemSink,
-) -> Result<Status, NoMemory> {
-    let words = texts(alloc, words)?;
-    Ok(wp_main(alloc, words.as_slice(), files, out))
+) {
+    let status = wp_main(alloc, words.as_slice(), files, out);
+    tell_run(page, status, files, out);
+}
+
+/// A run without words, and three with them, over the same files and the same sink, and one more into another sink.
+pub fn again_case(
+    alloc: Global,
+    page: &mut Page,
+    setting: &Setting<'_>,
+    text: &[u8],
+) -> Result<(), NoMemory>
+    requires piece { 0 < setting.now.piece }
+    requires by { 0 < setting.now.by }
+{
+    let none = List::new(alloc);
+    let words = words_of(alloc, setting.words)?;
+    let mut files = file_of(alloc, setting, text)?;
+    let mut out = sink_of(alloc, setting)?;
+    let mut other = MemSink::new(alloc, setting.room, setting.by, List::new(alloc))?;
+    again(alloc, page, &none, &mut files, &mut out);
+    for _ in 0..3 {
+        again(alloc, page, &words, &mut files, &mut out);
+    }
+    again(alloc, page, &words, &mut files, &mut other);
+    Ok(())
 }

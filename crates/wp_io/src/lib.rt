@@ -22,6 +22,3 @@ pub use real::{RealFiles, RealSink};
 pub use sink::Sink;
 pub use still::{StillFiles, StillSink};
 pub use writing::{WriteFault, write_all};
-
-#[cfg(test)]
-mod tests;

@@ -65,7 +65,8 @@ Ends operator n ts = (m : ℕ) → m ≤ n → operator m ts ≡ None
 pub ends_fewer : {O : Type 0} (operator : ℕ → Reader (O × ℕ)) (m n : ℕ) (ts : List Token) → m ≤ n → Ends operator n ts → Ends operator m ts
 ends_fewer operator m n ts le h i less = h i (omega arith)
 
--- Where operators of level n may still come, the reader of the level has read e and goes on with them. An operand ends only where `Stops` holds of what comes next.
+-- Where operators of level n may still come, the reader of the level has read e and goes on with them. An operand ends only where `Stops` holds of
+-- what comes next.
 abbrev pub Reads : {X O : Type 0} → (make : O → ℕ → X → X → X) → (operator : ℕ → Reader (O × ℕ)) → (Stops : List Token → Type 0) → ℕ → Reader X → List Token → X → Type 0
 Reads make operator Stops zero operand xs e = (rest : List Token) → Stops rest → levels make operator 0 operand (xs ++ rest) ≡ Some (e, rest)
 Reads make operator Stops (suc n) operand xs e = (rest : List Token) → Stops rest → Ends operator n rest

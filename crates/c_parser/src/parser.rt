@@ -40,14 +40,16 @@ fn read_file(alloc: Global, tokens: &Tokens) -> Result<Program, Stop>
     finish(front)
 }
 
-/// Reads a file. What isn't spelled is refused on the line of the first token behind the longest list of declarations, and what passes a limit on the line of the first token past it.
+/// Reads a file. What isn't spelled is refused on the line of the first token behind the longest list of declarations, and what passes a
+/// limit on the line of the first token past it.
 pub fn parse(alloc: Global, tokens: &Tokens) -> Result<Program, Stop>
     ensures reads { Answers result (outcome tokens.now) }
     // What is read is what the tokens spell, within the limits.
     ensures spelled { IfOk result (λ p. SpellsWithin tokens.now (view_program p)) }
     // What the tokens spell within the limits is read, and as that program, unless memory runs out.
     ensures only { (q : d.Program) → SpellsWithin tokens.now q → OnlyParsed result q }
-    // A refusal is by the rule of syntax, where nothing is spelled, on the line of the first token that isn't; or by that of limits, where a program is spelled, on the line of the first token past one.
+    // A refusal is by the rule of syntax, where nothing is spelled, on the line of the first token that isn't; or by that of limits, where a
+    // program is spelled, on the line of the first token past one.
     ensures refusal { (x : Refusal) → result ≡ Err (Stop.Refused x) → Refuses tokens.now x }
     // A program that passes a limit is refused so, unless memory runs out.
     ensures limit { (line : ℕ) → SpellsPast tokens.now line → OnlyRefused result (record { rule = Rule.Limit; line = line }) }

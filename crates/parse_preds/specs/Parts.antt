@@ -1,5 +1,5 @@
--- Readers of parts of predicates (ACSL 2.2). A quantifier and `\let` reach as far to the right as they can, so what stands before their body is read for itself: a part
--- goes up to its end, or up to the first quantifier or `\let` that stands open at its right end, with the binders.
+-- Readers of parts of predicates (ACSL 2.2). A quantifier and `\let` reach as far to the right as they can, so what stands before their body is
+-- read for itself: a part goes up to its end, or up to the first quantifier or `\let` that stands open at its right end, with the binders.
 use Rattle.std.specs.Prelude.{ℕ, zero, suc, ◌-◌, List, [], ◌∷◌, length, Option, Some, None, map}
 use Rattle.c_syntax.specs.declared.token.Token.{Token}
 use Rattle.c_syntax.specs.declared.token.TokenKind.{TokenKind}

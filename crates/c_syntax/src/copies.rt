@@ -3,6 +3,7 @@
 mod contracts;
 mod decls;
 mod exprs;
+mod parts;
 mod preds;
 mod stmts;
 mod terms;

@@ -2,9 +2,9 @@
 ghost use Rattle.std.specs.Prelude.{◌≡◌, IfOk};
 
 use crate::annot::{AssignsClause, Behavior, Clause, Contract, LoopAnnot, Measure, Names, Term};
-use crate::copies::terms::copy_terms;
+use crate::copies::parts::{Copies, both};
 use std::alloc::Global;
-use wp_base::{Line, List, NoMemory, Str};
+use wp_base::{Line, List, NoMemory};
 
 impl Clause {
     /// A copy, which equals its source.
@@ -39,8 +39,7 @@ impl AssignsClause {
     pub fn copy(&self, alloc: Global) -> Result<AssignsClause, NoMemory>
         ensures { IfOk result (λ copy. copy ≡ self.now) }
     {
-        let set = copy_set(&self.set, alloc)?;
-        let from = copy_lines(&self.from, alloc)?;
+        let (set, from) = both(self.set.copy_of(alloc), copy_lines(&self.from, alloc))?;
         Ok(AssignsClause {
             set,
             from,
@@ -55,7 +54,7 @@ impl Names {
     pub fn copy(&self, alloc: Global) -> Result<Names, NoMemory>
         ensures { IfOk result (λ copy. copy ≡ self.now) }
     {
-        let names = copy_texts(&self.names, alloc)?;
+        let names = self.names.copy_of(alloc)?;
         Ok(Names {
             names,
             line: self.line,
@@ -69,11 +68,12 @@ impl Behavior {
     pub fn copy(&self, alloc: Global) -> Result<Behavior, NoMemory>
         ensures { IfOk result (λ copy. copy ≡ self.now) }
     {
-        let name = self.name.copy(alloc)?;
-        let assumes = copy_clauses(&self.assumes, alloc)?;
-        let requires_ = copy_clauses(&self.requires_, alloc)?;
-        let assigns = self.assigns.copy(alloc)?;
-        let ensures_ = copy_clauses(&self.ensures_, alloc)?;
+        let head = both(self.name.copy(alloc), self.assumes.copy_of(alloc));
+        let rest = both(self.assigns.copy(alloc), self.ensures_.copy_of(alloc));
+        let ((name, assumes), (requires_, (assigns, ensures_))) = both(
+            head,
+            both(self.requires_.copy_of(alloc), rest),
+        )?;
         Ok(Behavior {
             name,
             assumes,
@@ -91,13 +91,12 @@ impl Contract {
     pub fn copy(&self, alloc: Global) -> Result<Contract, NoMemory>
         ensures { IfOk result (λ copy. copy ≡ self.now) }
     {
-        let requires_ = copy_clauses(&self.requires_, alloc)?;
-        let assigns = self.assigns.copy(alloc)?;
-        let ensures_ = copy_clauses(&self.ensures_, alloc)?;
-        let decreases_ = copy_measure(&self.decreases_, alloc)?;
-        let behaviors = copy_behaviors(&self.behaviors, alloc)?;
-        let complete = copy_names(&self.complete, alloc)?;
-        let disjoint = copy_names(&self.disjoint, alloc)?;
+        let head = both(self.requires_.copy_of(alloc), self.assigns.copy(alloc));
+        let middle = both(self.ensures_.copy_of(alloc), self.decreases_.copy_of(alloc));
+        let groups = both(self.complete.copy_of(alloc), self.disjoint.copy_of(alloc));
+        let rest = both(self.behaviors.copy_of(alloc), groups);
+        let ((requires_, assigns), ((ensures_, decreases_), (behaviors, (complete, disjoint)))) =
+            both(head, both(middle, rest))?;
         Ok(Contract {
             requires_,
             assigns,
@@ -115,32 +114,15 @@ impl LoopAnnot {
     pub fn copy(&self, alloc: Global) -> Result<LoopAnnot, NoMemory>
         ensures { IfOk result (λ copy. copy ≡ self.now) }
     {
-        let invariants = copy_clauses(&self.invariants, alloc)?;
-        let assigns = self.assigns.copy(alloc)?;
-        let variant = copy_measure(&self.variant, alloc)?;
+        let (invariants, (assigns, variant)) = both(
+            self.invariants.copy_of(alloc),
+            both(self.assigns.copy(alloc), self.variant.copy_of(alloc)),
+        )?;
         Ok(LoopAnnot {
             invariants,
             assigns,
             variant,
         })
-    }
-}
-
-fn copy_set(terms: &Option<List<Term>>, alloc: Global) -> Result<Option<List<Term>>, NoMemory>
-    ensures { IfOk result (λ copy. copy ≡ terms.now) }
-{
-    match terms {
-        None => Ok(None),
-        Some(terms) => Ok(Some(copy_terms(terms, alloc)?)),
-    }
-}
-
-fn copy_measure(measure: &Option<Measure>, alloc: Global) -> Result<Option<Measure>, NoMemory>
-    ensures { IfOk result (λ copy. copy ≡ measure.now) }
-{
-    match measure {
-        None => Ok(None),
-        Some(measure) => Ok(Some(measure.copy(alloc)?)),
     }
 }
 
@@ -150,42 +132,32 @@ fn copy_lines(lines: &List<Line>, alloc: Global) -> Result<List<Line>, NoMemory>
     Ok(List::from_vec(Vec::from_slice(alloc, lines.as_slice())?))
 }
 
-fn copy_texts(texts: &List<Str>, alloc: Global) -> Result<List<Str>, NoMemory>
-    ensures { IfOk result (λ copies. copies ≡ texts.now) }
-{
-    let mut copies = List::new(alloc);
-    for text in texts.as_slice() {
-        copies.push(text.copy(alloc)?)?;
+impl Copies for Clause {
+    fn copy_of(&self, alloc: Global) -> Result<Clause, NoMemory> {
+        self.copy(alloc)
     }
-    Ok(copies)
 }
 
-fn copy_clauses(clauses: &List<Clause>, alloc: Global) -> Result<List<Clause>, NoMemory>
-    ensures { IfOk result (λ copies. copies ≡ clauses.now) }
-{
-    let mut copies = List::new(alloc);
-    for clause in clauses.as_slice() {
-        copies.push(clause.copy(alloc)?)?;
+impl Copies for Measure {
+    fn copy_of(&self, alloc: Global) -> Result<Measure, NoMemory> {
+        self.copy(alloc)
     }
-    Ok(copies)
 }
 
-fn copy_behaviors(behaviors: &List<Behavior>, alloc: Global) -> Result<List<Behavior>, NoMemory>
-    ensures { IfOk result (λ copies. copies ≡ behaviors.now) }
-{
-    let mut copies = List::new(alloc);
-    for behavior in behaviors.as_slice() {
-        copies.push(behavior.copy(alloc)?)?;
+impl Copies for Names {
+    fn copy_of(&self, alloc: Global) -> Result<Names, NoMemory> {
+        self.copy(alloc)
     }
-    Ok(copies)
 }
 
-fn copy_names(names: &List<Names>, alloc: Global) -> Result<List<Names>, NoMemory>
-    ensures { IfOk result (λ copies. copies ≡ names.now) }
-{
-    let mut copies = List::new(alloc);
-    for group in names.as_slice() {
-        copies.push(group.copy(alloc)?)?;
+impl Copies for Behavior {
+    fn copy_of(&self, alloc: Global) -> Result<Behavior, NoMemory> {
+        self.copy(alloc)
     }
-    Ok(copies)
+}
+
+impl Copies for Term {
+    fn copy_of(&self, alloc: Global) -> Result<Term, NoMemory> {
+        self.copy(alloc)
+    }
 }

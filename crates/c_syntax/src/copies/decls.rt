@@ -1,21 +1,22 @@
 // Copies of declarations.
 ghost use Rattle.std.specs.Prelude.{◌≡◌, IfOk};
 
-use crate::copies::exprs::copy_expr;
+use crate::copies::parts::{Copies, both};
 use crate::decl::{Decl, EnumDecl, Function, LogicBody, LogicDecl, Program, StructDecl, VarDecl};
 use crate::expr::CType;
 use crate::stmt::Stmt;
 use std::alloc::Global;
-use wp_base::{List, NoMemory, Str};
+use wp_base::{List, NoMemory};
 
 impl VarDecl {
     /// A copy, which equals its source.
     pub fn copy(&self, alloc: Global) -> Result<VarDecl, NoMemory>
         ensures { IfOk result (λ copy. copy ≡ self.now) }
     {
-        let name = self.name.copy(alloc)?;
-        let ty = self.ty.copy(alloc)?;
-        let init = copy_expr(&self.init, alloc)?;
+        let (name, (ty, init)) = both(
+            self.name.copy(alloc),
+            both(self.ty.copy(alloc), self.init.copy_of(alloc)),
+        )?;
         Ok(VarDecl {
             name,
             ty,
@@ -30,8 +31,7 @@ impl StructDecl {
     pub fn copy(&self, alloc: Global) -> Result<StructDecl, NoMemory>
         ensures { IfOk result (λ copy. copy ≡ self.now) }
     {
-        let name = self.name.copy(alloc)?;
-        let fields = copy_vars(&self.fields, alloc)?;
+        let (name, fields) = both(self.name.copy(alloc), self.fields.copy_of(alloc))?;
         Ok(StructDecl {
             name,
             fields,
@@ -45,8 +45,7 @@ impl EnumDecl {
     pub fn copy(&self, alloc: Global) -> Result<EnumDecl, NoMemory>
         ensures { IfOk result (λ copy. copy ≡ self.now) }
     {
-        let name = copy_tag(&self.name, alloc)?;
-        let items = copy_vars(&self.items, alloc)?;
+        let (name, items) = both(self.name.copy_of(alloc), self.items.copy_of(alloc))?;
         Ok(EnumDecl {
             name,
             items,
@@ -60,11 +59,12 @@ impl Function {
     pub fn copy(&self, alloc: Global) -> Result<Function, NoMemory>
         ensures { IfOk result (λ copy. copy ≡ self.now) }
     {
-        let name = self.name.copy(alloc)?;
-        let result = self.result.copy(alloc)?;
-        let params = copy_vars(&self.params, alloc)?;
-        let contract = self.contract.copy(alloc)?;
-        let body = copy_body(&self.body, alloc)?;
+        let head = both(
+            self.name.copy(alloc),
+            both(self.result.copy(alloc), self.params.copy_of(alloc)),
+        );
+        let rest = both(self.contract.copy(alloc), self.body.copy_of(alloc));
+        let ((name, (result, params)), (contract, body)) = both(head, rest)?;
         Ok(Function {
             name,
             result,
@@ -83,8 +83,8 @@ impl LogicBody {
         ensures { IfOk result (λ copy. copy ≡ self.now) }
     {
         match self {
-            LogicBody::Term(term) => Ok(LogicBody::Term(term.copy(alloc)?)),
-            LogicBody::Pred(pred) => Ok(LogicBody::Pred(pred.copy(alloc)?)),
+            LogicBody::Term(term) => term.copy(alloc).map(LogicBody::Term),
+            LogicBody::Pred(pred) => pred.copy(alloc).map(LogicBody::Pred),
         }
     }
 }
@@ -94,10 +94,11 @@ impl LogicDecl {
     pub fn copy(&self, alloc: Global) -> Result<LogicDecl, NoMemory>
         ensures { IfOk result (λ copy. copy ≡ self.now) }
     {
-        let name = self.name.copy(alloc)?;
-        let result = copy_result(&self.result, alloc)?;
-        let params = copy_vars(&self.params, alloc)?;
-        let body = self.body.copy(alloc)?;
+        let head = both(
+            self.name.copy(alloc),
+            both(self.result.copy_of(alloc), self.params.copy_of(alloc)),
+        );
+        let ((name, (result, params)), body) = both(head, self.body.copy(alloc))?;
         Ok(LogicDecl {
             name,
             result,
@@ -114,12 +115,12 @@ impl Decl {
         ensures { IfOk result (λ copy. copy ≡ self.now) }
     {
         match self {
-            Decl::Struct(decl) => Ok(Decl::Struct(decl.copy(alloc)?)),
-            Decl::Enum(decl) => Ok(Decl::Enum(decl.copy(alloc)?)),
-            Decl::Typedef(decl) => Ok(Decl::Typedef(decl.copy(alloc)?)),
-            Decl::Globals(decls) => Ok(Decl::Globals(copy_vars(decls, alloc)?)),
-            Decl::Function(function) => Ok(Decl::Function(function.copy(alloc)?)),
-            Decl::Logic(decl) => Ok(Decl::Logic(decl.copy(alloc)?)),
+            Decl::Struct(decl) => decl.copy(alloc).map(Decl::Struct),
+            Decl::Enum(decl) => decl.copy(alloc).map(Decl::Enum),
+            Decl::Typedef(decl) => decl.copy(alloc).map(Decl::Typedef),
+            Decl::Globals(decls) => decls.copy_of(alloc).map(Decl::Globals),
+            Decl::Function(function) => function.copy(alloc).map(Decl::Function),
+            Decl::Logic(decl) => decl.copy(alloc).map(Decl::Logic),
         }
     }
 }
@@ -129,35 +130,8 @@ impl Program {
     pub fn copy(&self, alloc: Global) -> Result<Program, NoMemory>
         ensures { IfOk result (λ copy. copy ≡ self.now) }
     {
-        let decls = copy_decls(&self.decls, alloc)?;
+        let decls = self.decls.copy_of(alloc)?;
         Ok(Program { decls })
-    }
-}
-
-fn copy_tag(name: &Option<Str>, alloc: Global) -> Result<Option<Str>, NoMemory>
-    ensures { IfOk result (λ copy. copy ≡ name.now) }
-{
-    match name {
-        None => Ok(None),
-        Some(name) => Ok(Some(name.copy(alloc)?)),
-    }
-}
-
-fn copy_body(stmt: &Option<Stmt>, alloc: Global) -> Result<Option<Stmt>, NoMemory>
-    ensures { IfOk result (λ copy. copy ≡ stmt.now) }
-{
-    match stmt {
-        None => Ok(None),
-        Some(stmt) => Ok(Some(stmt.copy(alloc)?)),
-    }
-}
-
-fn copy_result(ty: &Option<CType>, alloc: Global) -> Result<Option<CType>, NoMemory>
-    ensures { IfOk result (λ copy. copy ≡ ty.now) }
-{
-    match ty {
-        None => Ok(None),
-        Some(ty) => Ok(Some(ty.copy(alloc)?)),
     }
 }
 
@@ -165,19 +139,29 @@ fn copy_result(ty: &Option<CType>, alloc: Global) -> Result<Option<CType>, NoMem
 pub fn copy_vars(vars: &List<VarDecl>, alloc: Global) -> Result<List<VarDecl>, NoMemory>
     ensures { IfOk result (λ copies. copies ≡ vars.now) }
 {
-    let mut copies = List::new(alloc);
-    for var in vars.as_slice() {
-        copies.push(var.copy(alloc)?)?;
-    }
-    Ok(copies)
+    vars.copy_of(alloc)
 }
 
-fn copy_decls(decls: &List<Decl>, alloc: Global) -> Result<List<Decl>, NoMemory>
-    ensures { IfOk result (λ copies. copies ≡ decls.now) }
-{
-    let mut copies = List::new(alloc);
-    for decl in decls.as_slice() {
-        copies.push(decl.copy(alloc)?)?;
+impl Copies for VarDecl {
+    fn copy_of(&self, alloc: Global) -> Result<VarDecl, NoMemory> {
+        self.copy(alloc)
     }
-    Ok(copies)
+}
+
+impl Copies for Decl {
+    fn copy_of(&self, alloc: Global) -> Result<Decl, NoMemory> {
+        self.copy(alloc)
+    }
+}
+
+impl Copies for CType {
+    fn copy_of(&self, alloc: Global) -> Result<CType, NoMemory> {
+        self.copy(alloc)
+    }
+}
+
+impl Copies for Stmt {
+    fn copy_of(&self, alloc: Global) -> Result<Stmt, NoMemory> {
+        self.copy(alloc)
+    }
 }

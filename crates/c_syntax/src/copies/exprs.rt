@@ -1,6 +1,7 @@
 // Copies of expressions.
 ghost use Rattle.std.specs.Prelude.{◌≡◌, IfOk};
 
+use crate::copies::parts::Copies;
 use crate::expr::{Expr, ExprNode};
 use std::alloc::Global;
 use wp_base::{Boxed, List, NoMemory};
@@ -91,11 +92,8 @@ fn copy_exprs(exprs: &List<Expr>, alloc: Global) -> Result<List<Expr>, NoMemory>
     Ok(copies)
 }
 
-pub(crate) fn copy_expr(expr: &Option<Expr>, alloc: Global) -> Result<Option<Expr>, NoMemory>
-    ensures { IfOk result (λ copy. copy ≡ expr.now) }
-{
-    match expr {
-        None => Ok(None),
-        Some(expr) => Ok(Some(expr.copy(alloc)?)),
+impl Copies for Expr {
+    fn copy_of(&self, alloc: Global) -> Result<Expr, NoMemory> {
+        self.copy(alloc)
     }
 }

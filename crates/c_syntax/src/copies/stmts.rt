@@ -1,8 +1,7 @@
 // Copies of statements.
 ghost use Rattle.std.specs.Prelude.{◌≡◌, IfOk};
 
-use crate::copies::decls::copy_vars;
-use crate::copies::exprs::copy_expr;
+use crate::copies::parts::{Copies, both, boxed};
 use crate::stmt::{Stmt, StmtNode};
 use std::alloc::Global;
 use wp_base::{Boxed, List, NoMemory};
@@ -29,45 +28,47 @@ impl StmtNode {
     {
         match self {
             StmtNode::Empty => Ok(StmtNode::Empty),
-            StmtNode::Expr(expr) => Ok(StmtNode::Expr(expr.copy(alloc)?)),
-            StmtNode::Block(body) => Ok(StmtNode::Block(copy_stmts(body, alloc)?)),
-            StmtNode::Locals(vars) => Ok(StmtNode::Locals(copy_vars(vars, alloc)?)),
+            StmtNode::Expr(expr) => expr.copy(alloc).map(StmtNode::Expr),
+            StmtNode::Block(body) => copy_stmts(body, alloc).map(StmtNode::Block),
+            StmtNode::Locals(vars) => vars.copy_of(alloc).map(StmtNode::Locals),
             StmtNode::If(test, body, None) => {
-                let test = test.copy(alloc)?;
-                Ok(StmtNode::If(test, copy_boxed(body, alloc)?, None))
+                let (test, body) = both(test.copy(alloc), copy_boxed(body, alloc))?;
+                Ok(StmtNode::If(test, body, None))
             }
             StmtNode::If(test, body, Some(other)) => {
-                let test = test.copy(alloc)?;
-                let body = copy_boxed(body, alloc)?;
-                Ok(StmtNode::If(test, body, Some(copy_boxed(other, alloc)?)))
+                let bodies = both(copy_boxed(body, alloc), copy_boxed(other, alloc));
+                let (test, (body, other)) = both(test.copy(alloc), bodies)?;
+                Ok(StmtNode::If(test, body, Some(other)))
             }
             StmtNode::While(annot, test, body) => {
-                let annot = annot.copy(alloc)?;
-                let test = test.copy(alloc)?;
-                Ok(StmtNode::While(annot, test, copy_boxed(body, alloc)?))
+                let head = both(annot.copy(alloc), test.copy(alloc));
+                let ((annot, test), body) = both(head, copy_boxed(body, alloc))?;
+                Ok(StmtNode::While(annot, test, body))
             }
             StmtNode::Do(annot, body, test) => {
-                let annot = annot.copy(alloc)?;
-                let body = copy_boxed(body, alloc)?;
-                Ok(StmtNode::Do(annot, body, test.copy(alloc)?))
+                let head = both(annot.copy(alloc), test.copy(alloc));
+                let ((annot, test), body) = both(head, copy_boxed(body, alloc))?;
+                Ok(StmtNode::Do(annot, body, test))
             }
             StmtNode::For(annot, first, test, next, body) => {
-                let annot = annot.copy(alloc)?;
-                let first = copy_boxed(first, alloc)?;
-                let test = copy_expr(test, alloc)?;
-                let next = copy_expr(next, alloc)?;
-                Ok(StmtNode::For(annot, first, test, next, copy_boxed(body, alloc)?))
+                let tests = both(test.copy_of(alloc), next.copy_of(alloc));
+                let bodies = both(copy_boxed(first, alloc), copy_boxed(body, alloc));
+                let (annot, ((test, next), (first, body))) = both(
+                    annot.copy(alloc),
+                    both(tests, bodies),
+                )?;
+                Ok(StmtNode::For(annot, first, test, next, body))
             }
             StmtNode::Switch(value, body) => {
-                let value = value.copy(alloc)?;
-                Ok(StmtNode::Switch(value, copy_stmts(body, alloc)?))
+                let (value, body) = both(value.copy(alloc), copy_stmts(body, alloc))?;
+                Ok(StmtNode::Switch(value, body))
             }
-            StmtNode::Case(value) => Ok(StmtNode::Case(value.copy(alloc)?)),
+            StmtNode::Case(value) => value.copy(alloc).map(StmtNode::Case),
             StmtNode::Default => Ok(StmtNode::Default),
             StmtNode::Break => Ok(StmtNode::Break),
             StmtNode::Continue => Ok(StmtNode::Continue),
-            StmtNode::Return(value) => Ok(StmtNode::Return(copy_expr(value, alloc)?)),
-            StmtNode::Assert(pred) => Ok(StmtNode::Assert(pred.copy(alloc)?)),
+            StmtNode::Return(value) => value.copy_of(alloc).map(StmtNode::Return),
+            StmtNode::Assert(pred) => pred.copy(alloc).map(StmtNode::Assert),
         }
     }
 }
@@ -76,7 +77,7 @@ impl StmtNode {
 fn copy_boxed(stmt: &Boxed<Stmt>, alloc: Global) -> Result<Boxed<Stmt>, NoMemory>
     ensures { IfOk result (λ copy. copy ≡ stmt.now) }
 {
-    Boxed::new(alloc, stmt.get().copy(alloc)?)
+    boxed(alloc, stmt.get().copy(alloc))
 }
 
 #[cycle(stmt_copy)]

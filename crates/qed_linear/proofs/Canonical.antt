@@ -9,7 +9,7 @@ use Rattle.qed_terms.specs.declared.head.TermOp.{TermOp}
 use Rattle.qed_terms.specs.declared.head.TermOp.TheVariants as op
 use Rattle.qed_terms.specs.Tree.{Tree, num}
 use Rattle.qed_terms.specs.Operators.{is_zero}
-use Rattle.qed_terms.specs.Order.{tree_cmp, same}
+use Rattle.qed_terms.specs.Order.{tree_cmp}
 use Rattle.qed_linear.specs.Linear.{fits, Part, Lin, part, lin, number, atom_lin, is_number, at_order, cons_nonzero, add_part, add_parts, add, add_all, scale_parts, scale, subtract, parts_fit, checked, op_form, head_form, or_atom, to_lin}
 use Rattle.qed_linear.proofs.Facts.{and_left, and_right, zero_is, no_zero}
 use Rattle.std.specs.Ordering.{ordering_reverse}

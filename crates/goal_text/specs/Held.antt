@@ -1,17 +1,13 @@
 -- Which numbers a goal in memory holds: those of 128 bits, and 32 bits for the elements of a layout.
-use Rattle.std.specs.Prelude.{◌^◌, Bool, true, ◌&&◌, nat_lt, ℤ, pos, negsuc, List}
+use Rattle.std.specs.Prelude.{◌^◌, Bool, true, ◌&&◌, nat_lt, List}
 use Rattle.std.specs.List.{list_all}
 use Rattle.wp_base.specs.declared.kinds.Layout.{Layout}
 use Rattle.qed_terms.specs.declared.head.TermOp.TheVariants as op
 use Rattle.qed_terms.specs.declared.head.FormOp.TheVariants as form
 use Rattle.qed_terms.specs.declared.head.Head.{Head}
 use Rattle.qed_terms.specs.declared.head.Head.TheVariants as h
+use Rattle.goal_words.specs.Numbers.{fits_128}
 use Rattle.qed_terms.specs.Tree.{Tree, node, Trees, stop, more}
-
--- from -2^127 to 2^127 - 1
-abbrev pub fits_128 : ℤ → Bool
-fits_128 (pos n) = nat_lt n (2 ^ 127)
-fits_128 (negsuc n) = nat_lt n (2 ^ 127)
 
 abbrev pub fits_32 : Layout → Bool
 fits_32 l = nat_lt l.count (2 ^ 32)

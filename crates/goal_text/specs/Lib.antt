@@ -3,4 +3,4 @@ pub mod Held
 pub mod Words
 pub mod Reader
 pub mod Views
-pub mod Regions
+pub mod Writer

@@ -1,80 +1,36 @@
 -- The reader as a function on lists of bytes: what is read, and the bytes after it.
-use Rattle.std.specs.Prelude.{ℕ, zero, suc, ◌^◌, ◌==◌, ◌||◌, ◌&&◌, not, nat_lt, Bool, true, false, List, [], ◌∷◌, ◌++◌, length, take, drop, codes, Option, Some, None, ℤ, if◌then◌else◌}
-use Rattle.std.specs.List.{prefix_len}
+use Rattle.std.specs.Prelude.{ℕ, zero, suc, Bool, true, false, List, [], ◌∷◌, ◌++◌, length, codes, Option, Some, None, ℤ, if◌then◌else◌}
 use Rattle.std.specs.Str.{bytes_eq}
-use Rattle.std.specs.Str.Parse.{digits_value, signed_digits_value, without_leading_plus}
-use Rattle.std.specs.Fmt.{decimal, signed_decimal}
-use Rattle.wp_base.specs.declared.kinds.Kind.{Kind}
 use Rattle.wp_base.specs.declared.kinds.CellKind.{CellKind}
 use Rattle.wp_base.specs.declared.kinds.Layout.{Layout}
 use Rattle.qed_terms.specs.declared.head.Sort.{Sort}
 use Rattle.qed_terms.specs.declared.head.Sort.TheVariants as sort
 use Rattle.qed_terms.specs.declared.head.Shape.{Shape}
 use Rattle.qed_terms.specs.declared.head.Shape.TheVariants as shape
+use Rattle.qed_terms.specs.declared.head.TermOp.{TermOp}
 use Rattle.qed_terms.specs.declared.head.TermOp.TheVariants as op
+use Rattle.qed_terms.specs.declared.head.FormOp.{FormOp}
 use Rattle.qed_terms.specs.declared.head.FormOp.TheVariants as form
-use Rattle.qed_terms.specs.declared.head.Head.{Head}
 use Rattle.qed_terms.specs.declared.head.Head.TheVariants as h
-use Rattle.qed_terms.specs.Names.{is_name, is_memory_name}
-use Rattle.qed_terms.specs.Tree.{Tree, node, stop, trees_of}
-use Rattle.qed_terms.specs.WellFormed.{Place, term, formula, argument, int, mem, tab, takes_term, kid_places}
-use Rattle.goal_text.specs.Held.{fits_128}
+use Rattle.qed_terms.specs.Names.{is_name}
+use Rattle.qed_terms.specs.Tree.{Tree, node, stop, trees_of, one, two, three}
+use Rattle.qed_terms.specs.WellFormed.{Place, term, formula, argument, int, mem, tab, takes_term, form_places, kid_places}
+use Rattle.goal_words.specs.Bytes.{Reader, ◌>>=◌, expect, is_end, front, after, only_if, with_rest, named_part}
+use Rattle.goal_words.specs.Kinds.{row_of, kind_words, cell_of, cell_word}
+use Rattle.goal_words.specs.Names.{name_part, name_sort}
+use Rattle.goal_words.specs.Numbers.{number, count, flag}
+use Rattle.goal_text.specs.declared.fronts.FormHead.{FormHead}
+use Rattle.goal_text.specs.declared.fronts.FormHead.TheVariants as fh
+use Rattle.goal_text.specs.declared.fronts.TermHead.{TermHead}
+use Rattle.goal_text.specs.declared.fronts.TermHead.TheVariants as th
 use Rattle.goal_text.specs.declared.words.TermWord.{TermWord}
 use Rattle.goal_text.specs.declared.words.TermWord.TheVariants as t
 use Rattle.goal_text.specs.declared.words.FormWord.{FormWord}
 use Rattle.goal_text.specs.declared.words.FormWord.TheVariants as f
-use Rattle.goal_text.specs.Words.{row_of, term_words, form_words, kind_words, cell_of, sort_of, shape_of}
+use Rattle.goal_text.specs.Words.{term_words, form_words, sort_of, shape_of}
 
-abbrev pub Reader : Type 0 → Type 0
-Reader X = List ℕ → Option (X × List ℕ)
+-- ---- steps that each read one part behind a space, as many as there are
 
-infixl 10 ◌>>=◌
-abbrev pub ◌>>=◌ : {X Y : Type 0} → Option X → (X → Option Y) → Option Y
-None >>= f = None
-(Some x) >>= f = f x
-
--- ---- bytes and words
-
--- the bytes after this one
-abbrev pub expect : ℕ → List ℕ → Option (List ℕ)
-expect b [] = None
-expect b (c ∷ bytes) = if c == b then Some bytes else None
-
--- neither a space nor a bracket
-abbrev pub is_plain : ℕ → Bool
-is_plain b = not (b == 32 || b == 40 || b == 41)
-
--- the word at the front, and what comes after it
-unfoldable pub front : List ℕ → List ℕ
-front bytes = take (prefix_len is_plain bytes) bytes
-
-unfoldable pub after : List ℕ → List ℕ
-after bytes = drop (prefix_len is_plain bytes) bytes
-
--- a space and a word
-abbrev pub part : Reader (List ℕ)
-part bytes = expect 32 bytes >>= λ rest. Some (front rest, after rest)
-
-abbrev pub only_if : {X : Type 0} → Bool → X → Option X
-only_if test x = if test then Some x else None
-
--- a space and a name
-abbrev pub name_part : Reader (List ℕ)
-name_part bytes = part bytes >>= λ x. only_if (is_name x.0) x
-
-abbrev pub with_rest : {X : Type 0} → List ℕ → Option X → Option (X × List ℕ)
-with_rest rest None = None
-with_rest rest (Some x) = Some (x, rest)
-
--- a space and what the word after it names
-abbrev pub named_part : {X : Type 0} → (List ℕ → Option X) → Reader X
-named_part names bytes = part bytes >>= λ x. with_rest x.1 (names x.0)
-
--- one more of these at the end of the list
-abbrev pub one_more : {X : Type 0} → Reader X → List X → Reader (List X)
-one_more read done bytes = read bytes >>= λ x. Some (done ++ x.0 ∷ [], x.1)
-
--- steps that each read one part behind a space, as many as there are
 abbrev pub repeat_by : {S : Type 0} → Option (List ℕ) → (S → Reader S) → S → List ℕ → (S → Reader S) → Option (S × List ℕ)
 repeat_by None step s bytes next = Some (s, bytes)
 repeat_by (Some rest) step s bytes next = step s rest >>= λ x. next x.0 x.1
@@ -83,21 +39,15 @@ unfoldable pub repeat : {S : Type 0} → (S → Reader S) → (turns : ℕ) → 
 repeat step zero s bytes = Some (s, bytes)
 repeat step (suc turns) s bytes = repeat_by (expect 32 bytes) step s bytes (repeat step turns)
 
--- ---- numbers and layouts
+-- one more of these at the end of the list
+abbrev pub one_more : {X : Type 0} → Reader X → List X → Reader (List X)
+one_more read done bytes = read bytes >>= λ x. Some (done ++ x.0 ∷ [], x.1)
 
--- the number whose text this is
-unfoldable pub number : List ℕ → Option ℤ
-number word = let z = signed_digits_value 10 word in only_if (fits_128 z && bytes_eq (signed_decimal z) word) z
+-- ---- layouts
 
--- the number of 32 bits whose text this is
-unfoldable pub count : List ℕ → Option ℕ
-count word = let n = digits_value 10 (without_leading_plus word) in only_if (nat_lt n (2 ^ 32) && bytes_eq (decimal n) word) n
-
-abbrev pub flag : List ℕ → Option Bool
-flag word = if bytes_eq word (codes "1") then Some true else (if bytes_eq word (codes "0") then Some false else None)
-
-abbrev pub cell_word : Reader CellKind
-cell_word bytes = with_rest (after bytes) (cell_of (front bytes))
+-- a bracket that opens, and this word
+abbrev pub opened : List ℕ → List ℕ → Option (List ℕ)
+opened word bytes = expect 40 bytes >>= λ rest. only_if (bytes_eq (front rest) word) (after rest)
 
 abbrev pub layout_with : Bool → ℕ → List CellKind → Layout
 layout_with w n cells = record { count = n; cells = cells; writable = w }
@@ -108,7 +58,7 @@ layout_inside bytes = named_part flag bytes >>= λ w. named_part count w.1 >>= �
 
 -- a space and a layout
 unfoldable pub layout_part : Reader Layout
-layout_part bytes = expect 32 bytes >>= expect 40 >>= λ rest. only_if (bytes_eq (front rest) (codes "lay")) (after rest) >>= layout_inside
+layout_part bytes = expect 32 bytes >>= opened (codes "lay") >>= layout_inside
 
 -- ---- leaves
 
@@ -120,10 +70,6 @@ abbrev pub number_or : Sort → Option ℤ → List ℕ → Option Tree
 number_or s (Some z) word = Some (node (h.Num z) stop)
 number_or s None word = named s word
 
--- among arguments a name's form tells whether it is a memory
-abbrev pub argument_sort : List ℕ → Sort
-argument_sort word = if is_memory_name word then sort.Memory else sort.Int
-
 abbrev pub truth_leaf : List ℕ → Option Tree
 truth_leaf word = if bytes_eq word (codes "true") then Some (node h.True stop) else (if bytes_eq word (codes "false") then Some (node h.False stop) else None)
 
@@ -132,127 +78,200 @@ abbrev pub leaf : Place → List ℕ → Option Tree
 leaf (term sort.Int) word = number_or sort.Int (number word) word
 leaf (term sort.Memory) word = named sort.Memory word
 leaf (term sort.Table) word = named sort.Table word
-leaf argument word = number_or (argument_sort word) (number word) word
+leaf argument word = number_or (name_sort word) (number word) word
 leaf formula word = truth_leaf word
 
 -- ---- kids, over the reader of what stands inside
 
+-- what a node is made of: its formulas, its terms and the shapes of its regions, each in their order
+pub record Kids : Type 0 where
+  pub formulas : List Tree
+  pub terms : List Tree
+  pub shapes : List Shape
+
+abbrev pub no_kids : Kids
+no_kids = record { formulas = []; terms = []; shapes = [] }
+
+abbrev pub with_formulas : Kids → List Tree → Kids
+with_formulas k fs = record { formulas = k.formulas ++ fs; terms = k.terms; shapes = k.shapes }
+
+abbrev pub with_terms : Kids → List Tree → Kids
+with_terms k ts = record { formulas = k.formulas; terms = k.terms ++ ts; shapes = k.shapes }
+
+abbrev pub with_shape : Kids → Shape → Kids
+with_shape k s = record { formulas = k.formulas; terms = k.terms; shapes = k.shapes ++ s ∷ [] }
+
+-- kids behind the others that stand at such places
+abbrev pub with_kids : Place → List Tree → Kids → Kids
+with_kids (term s) ts k = with_terms k ts
+with_kids argument ts k = with_terms k ts
+with_kids formula ts k = with_formulas k ts
+
 abbrev pub Inner : Type 0
 Inner = Place → Reader Tree
 
--- a space and a tree
-abbrev pub kid : Inner → Place → Reader Tree
-kid inner place bytes = expect 32 bytes >>= inner place
+abbrev pub kid : Inner → Place → Kids → Reader Kids
+kid inner place k bytes = inner place bytes >>= λ t. Some (with_kids place (t.0 ∷ []) k, t.1)
 
 -- one for each place, behind those that were read
-unfoldable pub kids_on : Inner → List Place → List Tree → Reader (List Tree)
-kids_on inner [] done bytes = Some (done, bytes)
-kids_on inner (place ∷ places) done bytes = kid inner place bytes >>= λ k. kids_on inner places (done ++ k.0 ∷ []) k.1
+unfoldable pub kids_at : Inner → List Place → Kids → Reader Kids
+kids_at inner [] k bytes = Some (k, bytes)
+kids_at inner (place ∷ places) k bytes = expect 32 bytes >>= λ rest. kid inner place k rest >>= λ x. kids_at inner places x.0 x.1
 
-abbrev pub made : Head → Reader (List Tree) → Reader Tree
-made head read bytes = read bytes >>= λ ks. Some (node head (trees_of ks.0), ks.1)
-
--- a head with as many kids as its row has
-abbrev pub fixed : Inner → Head → Reader Tree
-fixed inner head = made head (kids_on inner (kid_places head 0) [])
-
--- a head with any number of kids
-abbrev pub many : Inner → Place → Head → Reader Tree
-many inner place head bytes = made head (repeat (one_more (inner place)) (length bytes) []) bytes
-
--- kids and then a layout
-abbrev pub laid : Inner → List Place → (Layout → Head) → Reader Tree
-laid inner places head bytes = kids_on inner places [] bytes >>= λ ks. layout_part ks.1 >>= λ l. Some (node (head l.0) (trees_of ks.0), l.1)
-
--- ---- regions
+-- any number of them
+unfoldable pub kids_any : Inner → Place → Kids → Reader Kids
+kids_any inner place k bytes = repeat (kid inner place) (length bytes) k bytes
 
 abbrev pub shape_places : Shape → List Place
 shape_places shape.Cells = int ∷ int ∷ int ∷ []
 shape_places shape.New = int ∷ []
 
-abbrev pub Regions : Type 0
-Regions = List Shape × List Tree
+-- a region, behind those that were read
+unfoldable pub region : Inner → Kids → Reader Kids
+region inner k bytes = expect 40 bytes >>= λ rest. shape_of (front rest) >>= λ s. kids_at inner (shape_places s) k (after rest) >>= λ x. expect 41 x.1 >>= λ rest. Some (with_shape x.0 s, rest)
 
-abbrev pub closed : {X : Type 0} → X × List ℕ → Option (X × List ℕ)
-closed x = expect 41 x.1 >>= λ rest. Some (x.0, rest)
+-- which kids a head has: one for each place, any number for one place, or two memories and regions
+pub data Plan : Type 0 where
+  row : List Place → Plan
+  any : Place → Plan
+  frame : Plan
 
--- a region, its terms behind the kids that were read
-abbrev pub region : Inner → Regions → Reader Regions
-region inner s bytes = expect 40 bytes >>= λ rest. shape_of (front rest) >>= λ shape. kids_on inner (shape_places shape) s.1 (after rest) >>= closed >>= λ ks. Some ((s.0 ++ shape ∷ [], ks.0), ks.1)
+unfoldable pub kids_by : Inner → Plan → Kids → Reader Kids
+kids_by inner (row places) k bytes = kids_at inner places k bytes
+kids_by inner (any place) k bytes = kids_any inner place k bytes
+kids_by inner frame k bytes = kids_at inner (mem ∷ mem ∷ []) k bytes >>= λ x. repeat (region inner) (length x.1) x.0 x.1
 
-abbrev pub no_regions : List Tree → Regions
-no_regions kids = ([], kids)
+-- ---- heads: the word, and a kind or a name behind it; then which kids it has
 
--- two memories and the regions
-abbrev pub framed : Inner → Reader Tree
-framed inner bytes = kids_on inner (mem ∷ mem ∷ []) [] bytes >>= λ ks. repeat (region inner) (length ks.1) (no_regions ks.0) ks.1 >>= λ rs. Some (node (h.Form (form.Frame rs.0.0)) (trees_of rs.0.1), rs.1)
+abbrev pub op_row : (o : TermOp) → TermHead × Plan
+op_row o = (th.Op o, row (kid_places (h.Term o) 0))
 
--- ---- what stands after the word of a head
+unfoldable pub term_head : TermWord → Reader (TermHead × Plan)
+term_head t.Add bytes = Some ((th.Op op.Add, any int), bytes)
+term_head t.Sub bytes = Some (op_row op.Sub, bytes)
+term_head t.Mul bytes = Some ((th.Op op.Mul, any int), bytes)
+term_head t.Neg bytes = Some (op_row op.Neg, bytes)
+term_head t.Div bytes = Some (op_row op.Div, bytes)
+term_head t.Mod bytes = Some (op_row op.Mod, bytes)
+term_head t.Wrap bytes = named_part (row_of kind_words) bytes >>= λ k. Some (op_row (op.Wrap k.0), k.1)
+term_head t.ShiftLeft bytes = Some (op_row op.ShiftLeft, bytes)
+term_head t.ShiftRight bytes = Some (op_row op.ShiftRight, bytes)
+term_head t.BitAnd bytes = Some (op_row op.BitAnd, bytes)
+term_head t.BitOr bytes = Some (op_row op.BitOr, bytes)
+term_head t.BitXor bytes = Some (op_row op.BitXor, bytes)
+term_head t.BitNot bytes = Some (op_row op.BitNot, bytes)
+term_head t.Ite bytes = Some ((th.Ite, row (kid_places h.Ite 0)), bytes)
+term_head t.Load bytes = Some (op_row op.Load, bytes)
+term_head t.Count bytes = Some (op_row op.Count, bytes)
+term_head t.Len bytes = Some (op_row op.Len, bytes)
+term_head t.App bytes = name_part bytes >>= λ x. Some ((th.App x.0, any argument), x.1)
+term_head t.Store bytes = Some (op_row op.Store, bytes)
+term_head t.Alloc bytes = Some ((th.Alloc, row (tab ∷ [])), bytes)
+term_head t.Grow bytes = Some (op_row op.Grow, bytes)
 
-abbrev pub with_name : (List ℕ → Reader Tree) → Reader Tree
-with_name read bytes = name_part bytes >>= λ x. read x.0 x.1
+abbrev pub form_row : (o : FormOp) → FormHead × Plan
+form_row o = (fh.Rel o, row (form_places o))
 
-abbrev pub with_kind : (Kind → Reader Tree) → Reader Tree
-with_kind read bytes = named_part (row_of kind_words) bytes >>= λ k. read k.0 k.1
+unfoldable pub form_head : FormWord → Reader (FormHead × Plan)
+form_head f.Equal bytes = Some (form_row form.Equal, bytes)
+form_head f.AtMost bytes = Some (form_row form.AtMost, bytes)
+form_head f.Less bytes = Some (form_row form.Less, bytes)
+form_head f.Same bytes = Some (form_row form.Same, bytes)
+form_head f.Not bytes = Some ((fh.Not, row (kid_places h.Not 0)), bytes)
+form_head f.And bytes = Some ((fh.And, any formula), bytes)
+form_head f.Or bytes = Some ((fh.Or, any formula), bytes)
+form_head f.Imp bytes = Some ((fh.Imp, row (kid_places h.Imp 0)), bytes)
+form_head f.Iff bytes = Some ((fh.Iff, row (kid_places h.Iff 0)), bytes)
+form_head f.Forall bytes = name_part bytes >>= λ x. Some ((fh.Forall x.0, row (kid_places (h.Forall x.0) 0)), x.1)
+form_head f.Exists bytes = name_part bytes >>= λ x. Some ((fh.Exists x.0, row (kid_places (h.Exists x.0) 0)), x.1)
+form_head f.Read bytes = named_part cell_of bytes >>= λ k. Some (form_row (form.Read k.0), k.1)
+form_head f.Write bytes = named_part cell_of bytes >>= λ k. Some (form_row (form.Write k.0), k.1)
+form_head f.Live bytes = Some (form_row form.Live, bytes)
+form_head f.Has bytes = Some ((fh.Has, row (tab ∷ int ∷ [])), bytes)
+form_head f.WellFormed bytes = named_part cell_of bytes >>= λ k. Some (form_row (form.WellFormed k.0), k.1)
+form_head f.Frame bytes = Some ((fh.Frame, frame), bytes)
 
-abbrev pub with_cell : (CellKind → Reader Tree) → Reader Tree
-with_cell read bytes = named_part cell_of bytes >>= λ k. read k.0 k.1
+-- a head of a term for the place
+unfoldable pub term_front : Place → Reader (TermHead × Plan)
+term_front place bytes = row_of term_words (front bytes) >>= λ w. only_if (takes_term place (sort_of w)) w >>= λ w. term_head w (after bytes)
 
-abbrev pub term_by : Inner → TermWord → Reader Tree
-term_by inner t.Add = many inner int (h.Term op.Add)
-term_by inner t.Sub = fixed inner (h.Term op.Sub)
-term_by inner t.Mul = many inner int (h.Term op.Mul)
-term_by inner t.Neg = fixed inner (h.Term op.Neg)
-term_by inner t.Div = fixed inner (h.Term op.Div)
-term_by inner t.Mod = fixed inner (h.Term op.Mod)
-term_by inner t.Wrap = with_kind (λ k. fixed inner (h.Term (op.Wrap k)))
-term_by inner t.ShiftLeft = fixed inner (h.Term op.ShiftLeft)
-term_by inner t.ShiftRight = fixed inner (h.Term op.ShiftRight)
-term_by inner t.BitAnd = fixed inner (h.Term op.BitAnd)
-term_by inner t.BitOr = fixed inner (h.Term op.BitOr)
-term_by inner t.BitXor = fixed inner (h.Term op.BitXor)
-term_by inner t.BitNot = fixed inner (h.Term op.BitNot)
-term_by inner t.Ite = fixed inner h.Ite
-term_by inner t.Load = fixed inner (h.Term op.Load)
-term_by inner t.Count = fixed inner (h.Term op.Count)
-term_by inner t.Len = fixed inner (h.Term op.Len)
-term_by inner t.App = with_name (λ x. many inner argument (h.App x))
-term_by inner t.Store = fixed inner (h.Term op.Store)
-term_by inner t.Alloc = laid inner (tab ∷ []) (λ l. h.Term (op.Alloc l))
-term_by inner t.Grow = fixed inner (h.Term op.Grow)
+unfoldable pub form_front : Reader (FormHead × Plan)
+form_front bytes = row_of form_words (front bytes) >>= λ w. form_head w (after bytes)
 
-abbrev pub form_by : Inner → FormWord → Reader Tree
-form_by inner f.Equal = fixed inner (h.Form form.Equal)
-form_by inner f.AtMost = fixed inner (h.Form form.AtMost)
-form_by inner f.Less = fixed inner (h.Form form.Less)
-form_by inner f.Same = fixed inner (h.Form form.Same)
-form_by inner f.Not = fixed inner h.Not
-form_by inner f.And = many inner formula h.And
-form_by inner f.Or = many inner formula h.Or
-form_by inner f.Imp = fixed inner h.Imp
-form_by inner f.Iff = fixed inner h.Iff
-form_by inner f.Forall = with_name (λ x. fixed inner (h.Forall x))
-form_by inner f.Exists = with_name (λ x. fixed inner (h.Exists x))
-form_by inner f.Read = with_cell (λ k. fixed inner (h.Form (form.Read k)))
-form_by inner f.Write = with_cell (λ k. fixed inner (h.Form (form.Write k)))
-form_by inner f.Live = fixed inner (h.Form form.Live)
-form_by inner f.Has = laid inner (tab ∷ int ∷ []) (λ l. h.Form (form.Has l))
-form_by inner f.WellFormed = with_cell (λ k. fixed inner (h.Form (form.WellFormed k)))
-form_by inner f.Frame = framed inner
+-- ---- what a head makes of its kids
+
+abbrev pub only_one : {X : Type 0} → List X → Option X
+only_one [] = None
+only_one (x ∷ []) = Some x
+only_one (x ∷ y ∷ zs) = None
+
+abbrev pub only_two : {X : Type 0} → List X → Option (X × X)
+only_two [] = None
+only_two (x ∷ []) = None
+only_two (x ∷ y ∷ []) = Some (x, y)
+only_two (x ∷ y ∷ z ∷ zs) = None
+
+-- a layout, where the head has one behind its kids, and the bracket that closes
+abbrev pub tail : Bool → Reader (Option Layout)
+tail true bytes = layout_part bytes >>= λ l. expect 41 l.1 >>= λ rest. Some (Some l.0, rest)
+tail false bytes = expect 41 bytes >>= λ rest. Some (None, rest)
+
+abbrev pub term_is_laid : TermHead → Bool
+term_is_laid th.Alloc = true
+term_is_laid head = false
+
+abbrev pub form_is_laid : FormHead → Bool
+form_is_laid fh.Has = true
+form_is_laid head = false
+
+-- the bounds of a quantifier and its body
+abbrev pub bound : Kids → Option (Tree × Tree × Tree)
+bound k = only_two k.terms >>= λ x. only_one k.formulas >>= λ a. Some (x.0, x.1, a)
+
+abbrev pub term_made : TermHead → Option Layout → Kids → Option Tree
+term_made (th.Op o) l k = Some (node (h.Term o) (trees_of k.terms))
+term_made th.Ite l k = only_one k.formulas >>= λ c. only_two k.terms >>= λ x. Some (node h.Ite (three c x.0 x.1))
+term_made (th.App x) l k = Some (node (h.App x) (trees_of k.terms))
+term_made th.Alloc None k = None
+term_made th.Alloc (Some l) k = Some (node (h.Term (op.Alloc l)) (trees_of k.terms))
+
+abbrev pub form_made : FormHead → Option Layout → Kids → Option Tree
+form_made (fh.Rel o) l k = Some (node (h.Form o) (trees_of k.terms))
+form_made fh.Not l k = only_one k.formulas >>= λ a. Some (node h.Not (one a))
+form_made fh.And l k = Some (node h.And (trees_of k.formulas))
+form_made fh.Or l k = Some (node h.Or (trees_of k.formulas))
+form_made fh.Imp l k = only_two k.formulas >>= λ x. Some (node h.Imp (two x.0 x.1))
+form_made fh.Iff l k = only_two k.formulas >>= λ x. Some (node h.Iff (two x.0 x.1))
+form_made (fh.Forall x) l k = bound k >>= λ b. Some (node (h.Forall x) (three b.0 b.1 b.2))
+form_made (fh.Exists x) l k = bound k >>= λ b. Some (node (h.Exists x) (three b.0 b.1 b.2))
+form_made fh.Has None k = None
+form_made fh.Has (Some l) k = Some (node (h.Form (form.Has l)) (trees_of k.terms))
+form_made fh.Frame l k = Some (node (h.Form (form.Frame k.shapes)) (trees_of k.terms))
+
+-- what stands behind the kids, and then what is made
+abbrev pub closing : Bool → (Option Layout → Option Tree) → Reader Tree
+closing is_laid made bytes = tail is_laid bytes >>= λ l. with_rest l.1 (made l.0)
+
+unfoldable pub term_end : TermHead → Kids → Reader Tree
+term_end head k = closing (term_is_laid head) (λ l. term_made head l k)
+
+unfoldable pub form_end : FormHead → Kids → Reader Tree
+form_end head k = closing (form_is_laid head) (λ l. form_made head l k)
 
 -- ---- trees
 
--- what stands between the brackets, by the place, and the bracket that closes
-abbrev pub term_inside : Inner → Place → Reader Tree
-term_inside inner place bytes = row_of term_words (front bytes) >>= λ w. only_if (takes_term place (sort_of w)) w >>= λ w. term_by inner w (after bytes) >>= closed
+-- what stands behind a front
+abbrev pub after_term : Inner → Option ((TermHead × Plan) × List ℕ) → Option (Tree × List ℕ)
+after_term inner o = o >>= λ x. kids_by inner x.0.1 no_kids x.1 >>= λ k. term_end x.0.0 k.0 k.1
 
-abbrev pub form_inside : Inner → Reader Tree
-form_inside inner bytes = row_of form_words (front bytes) >>= λ w. form_by inner w (after bytes) >>= closed
+abbrev pub after_form : Inner → Option ((FormHead × Plan) × List ℕ) → Option (Tree × List ℕ)
+after_form inner o = o >>= λ x. kids_by inner x.0.1 no_kids x.1 >>= λ k. form_end x.0.0 k.0 k.1
 
-unfoldable pub inside : Inner → Place → Reader Tree
-inside inner formula bytes = form_inside inner bytes
-inside inner (term s) bytes = term_inside inner (term s) bytes
-inside inner argument bytes = term_inside inner argument bytes
+-- what stands after the bracket that opens
+abbrev pub inside : Inner → Place → Reader Tree
+inside inner (term s) bytes = after_term inner (term_front (term s) bytes)
+inside inner argument bytes = after_term inner (term_front argument bytes)
+inside inner formula bytes = after_form inner (form_front bytes)
 
 abbrev pub tree_by : Option (List ℕ) → Inner → Place → Reader Tree
 tree_by (Some rest) inner place bytes = inside inner place rest
@@ -265,10 +284,14 @@ tree (suc room) place bytes = tree_by (expect 40 bytes) (tree room) place bytes
 
 -- ---- goals
 
-abbrev pub ended : {X : Type 0} → X × List ℕ → Option X
-ended (x, []) = Some x
-ended (x, b ∷ rest) = None
+-- `(imp (and K1 .. Kn)`: what is known
+unfoldable pub known : Inner → Reader (List Tree)
+known inner bytes = opened (codes "imp") bytes >>= expect 32 >>= opened (codes "and") >>= kids_any inner formula no_kids >>= λ k. expect 41 k.1 >>= λ rest. Some (k.0.formulas, rest)
 
--- the formula that the whole text is
-abbrev pub whole : (room : ℕ) → List ℕ → Option Tree
-whole room bytes = tree room formula bytes >>= ended
+-- the bracket that closes the goal, and the end of the text
+abbrev pub closes : List ℕ → Option (List ℕ)
+closes bytes = expect 41 bytes >>= λ rest. only_if (is_end rest) rest
+
+-- a goal that is the whole text: what is known, and the check
+abbrev pub goal : Inner → List ℕ → Option (List Tree × Tree)
+goal inner bytes = known inner bytes >>= λ k. expect 32 k.1 >>= inner formula >>= λ c. closes c.1 >>= λ rest. Some (k.0, c.0)

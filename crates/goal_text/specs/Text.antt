@@ -1,10 +1,6 @@
 -- The text of terms, formulas and goals: a number in decimal, a name as its bytes, and else `(HEAD part ..)` with single spaces.
-use Rattle.std.specs.Prelude.{ℕ, Bool, true, false, List, [], ◌∷◌, ◌++◌, map, take, drop, codes}
+use Rattle.std.specs.Prelude.{ℕ, List, [], ◌∷◌, ◌++◌, map, take, drop, codes}
 use Rattle.std.specs.Fmt.{decimal, signed_decimal}
-use Rattle.wp_base.specs.declared.kinds.Kind.{Kind}
-use Rattle.wp_base.specs.declared.kinds.Kind.TheVariants as kind
-use Rattle.wp_base.specs.declared.kinds.CellKind.{CellKind}
-use Rattle.wp_base.specs.declared.kinds.CellKind.TheVariants as cell
 use Rattle.wp_base.specs.declared.kinds.Layout.{Layout}
 use Rattle.qed_terms.specs.declared.head.Shape.{Shape}
 use Rattle.qed_terms.specs.declared.head.Shape.TheVariants as shape
@@ -15,6 +11,8 @@ use Rattle.qed_terms.specs.declared.head.FormOp.TheVariants as form
 use Rattle.qed_terms.specs.declared.head.Head.{Head}
 use Rattle.qed_terms.specs.declared.head.Head.TheVariants as h
 use Rattle.qed_terms.specs.Tree.{Tree, node, Trees, stop, more, goal_of}
+use Rattle.goal_words.specs.Kinds.{kind_text, cell_text}
+use Rattle.goal_words.specs.Numbers.{flag_text}
 
 -- each part behind a space
 abbrev pub spaced : List (List ℕ) → List ℕ
@@ -25,29 +23,7 @@ spaced (part ∷ parts) = 32 ∷ (part ++ spaced parts)
 abbrev pub bracket : List ℕ → List (List ℕ) → List ℕ
 bracket word parts = 40 ∷ (word ++ (spaced parts ++ 41 ∷ []))
 
--- ---- kinds and layouts
-
-abbrev pub kind_text : Kind → List ℕ
-kind_text kind.Bool = codes "bool"
-kind_text kind.Char = codes "char"
-kind_text kind.SChar = codes "schar"
-kind_text kind.UChar = codes "uchar"
-kind_text kind.Short = codes "short"
-kind_text kind.UShort = codes "ushort"
-kind_text kind.Int = codes "int"
-kind_text kind.UInt = codes "uint"
-kind_text kind.Long = codes "long"
-kind_text kind.ULong = codes "ulong"
-kind_text kind.LLong = codes "llong"
-kind_text kind.ULLong = codes "ullong"
-
-abbrev pub cell_text : CellKind → List ℕ
-cell_text (cell.Of k) = kind_text k
-cell_text cell.Ptr = codes "ptr"
-
-abbrev pub flag_text : Bool → List ℕ
-flag_text true = codes "1"
-flag_text false = codes "0"
+-- ---- layouts
 
 -- `(lay W N KIND ..)`: whether it may be written, how many elements, and the cells of one
 abbrev pub layout_text : Layout → List ℕ

@@ -1,20 +1,28 @@
--- What a reader of the program gives, beside what the reader on lists gives.
-use Rattle.std.specs.Prelude.{◌≡◌, ℕ, Bool, List, map, Option, Some, None, Result, Ok, Err}
+-- What a reader or a writer of the program gives, beside what the definitions give.
+use Rattle.std.specs.Prelude.{◌≡◌, ℕ, List, map, Option, Some, None, Result, Ok, Err}
 use Rattle.std.specs.Borrow.{Bor}
-use Rattle.qed_terms.specs.WellFormed.{Place, term, argument}
-use Rattle.qed_terms.specs.declared.term.Goal.{Goal}
-use Rattle.qed_terms.specs.Tree.{Tree}
-use Rattle.qed_terms.specs.declared.term.Term.{Term}
+use Rattle.qed_terms.specs.WellFormed.{Place, term, formula, argument}
 use Rattle.qed_terms.specs.declared.term.Formula.{Formula}
+use Rattle.qed_terms.specs.declared.term.Goal.{Goal}
+use Rattle.qed_terms.specs.declared.term.Term.{Term}
+use Rattle.qed_terms.specs.Tree.{Tree}
 use Rattle.qed_terms.specs.View.{term_tree, formula_tree}
-use Rattle.goal_text.specs.Held.{is_held}
-use Rattle.goal_text.specs.Text.{tree_text}
-use Rattle.goal_text.specs.declared.leaves.Wanted.{Wanted}
-use Rattle.goal_text.specs.declared.leaves.Wanted.TheVariants as wanted
+use Rattle.goal_text.specs.Reader.{Plan, row, any, frame}
+use Rattle.goal_text.specs.Reader as reader
 use Rattle.goal_text.specs.declared.answer.GoalText.{GoalText}
 use Rattle.goal_text.specs.declared.answer.GoalText.TheVariants.{NotAGoal, NoMemory}
+use Rattle.goal_text.specs.declared.fronts.FormHead.{FormHead}
+use Rattle.goal_text.specs.declared.fronts.Plan as code
+use Rattle.goal_text.specs.declared.fronts.Plan.TheVariants as plan
+use Rattle.goal_text.specs.declared.fronts.TermHead.{TermHead}
+use Rattle.goal_text.specs.declared.kids.Kids as kids
+use Rattle.goal_text.specs.declared.leaves.TermPlace.{TermPlace}
+use Rattle.goal_text.specs.declared.leaves.TermPlace.TheVariants as place
+use Rattle.goal_text.specs.declared.leaves.Wanted.{Wanted}
+use Rattle.goal_text.specs.declared.leaves.Wanted.TheVariants as wanted
 
--- the same, unless memory ran out
+-- ---- the same, unless memory ran out
+
 abbrev pub Gives : {X Y : Type 0} → (X → Y) → Result (X × Bor (List ℕ)) GoalText → Option (Y × List ℕ) → Type 0
 Gives see (Ok x) given = given ≡ Some (see x.0, x.1.now)
 Gives see (Err NotAGoal) given = given ≡ None
@@ -30,40 +38,44 @@ GivesRest (Ok x) given = given ≡ Some x.now
 GivesRest (Err NotAGoal) given = given ≡ None
 GivesRest (Err NoMemory) given = Unit {0}
 
--- the same for an option
-abbrev pub Finds : {X : Type 0} → Option (X × Bor (List ℕ)) → Option (X × List ℕ) → Type 0
-Finds (Some x) given = given ≡ Some (x.0, x.1.now)
-Finds None given = given ≡ None
-
-abbrev pub FindsWord : Option (Bor (List ℕ) × Bor (List ℕ)) → Option (List ℕ × List ℕ) → Type 0
-FindsWord (Some x) given = given ≡ Some (x.0.now, x.1.now)
-FindsWord None given = given ≡ None
-
-abbrev pub FindsRest : Option (Bor (List ℕ)) → Option (List ℕ) → Type 0
-FindsRest (Some x) given = given ≡ Some x.now
-FindsRest None given = given ≡ None
+-- beside the rest this is left
+abbrev pub Leaves : {Y : Type 0} → Y → Result (Bor (List ℕ)) GoalText → Option (Y × List ℕ) → Type 0
+Leaves y (Ok x) given = given ≡ Some (y, x.now)
+Leaves y (Err NotAGoal) given = given ≡ None
+Leaves y (Err NoMemory) given = Unit {0}
 
 abbrev pub same : {X : Type 0} → X → X
 same x = x
 
--- what is wanted, as a place
+-- ---- what is wanted and what is read, as plain values
+
+abbrev pub term_place : TermPlace → Place
+term_place (place.Of s) = term s
+term_place place.Argument = argument
+
 abbrev pub place_of : Wanted → Place
-place_of (wanted.Of s) = term s
-place_of wanted.Argument = argument
+place_of (wanted.Term p) = term_place p
+place_of wanted.Formula = formula
 
--- ---- the text of a term and of a formula, and whether its numbers are such as memory holds
+abbrev pub plan_of : code.Plan → Plan
+plan_of (plan.Row places) = row (map place_of places.now)
+plan_of (plan.Any place) = any (place_of place)
+plan_of plan.Frame = frame
 
-abbrev pub term_text : Term → List ℕ
-term_text t = tree_text (term_tree t)
+abbrev pub term_front_of : TermHead × code.Plan → TermHead × Plan
+term_front_of x = (x.0, plan_of x.1)
 
-abbrev pub formula_text : Formula → List ℕ
-formula_text f = tree_text (formula_tree f)
+abbrev pub form_front_of : FormHead × code.Plan → FormHead × Plan
+form_front_of x = (x.0, plan_of x.1)
 
-abbrev pub term_held : Term → Bool
-term_held t = is_held (term_tree t)
+abbrev pub kids_view : kids.Kids → reader.Kids
+kids_view k = record { formulas = map formula_tree k.formulas; terms = map term_tree k.terms; shapes = k.shapes }
 
-abbrev pub formula_held : Formula → Bool
-formula_held f = is_held (formula_tree f)
+abbrev pub both_trees : Formula × Formula → Tree × Tree
+both_trees x = (formula_tree x.0, formula_tree x.1)
+
+abbrev pub bound_trees : Term × Term × Formula → Tree × Tree × Tree
+bound_trees x = (term_tree x.0, term_tree x.1, formula_tree x.2)
 
 -- ---- the parts of a goal
 
@@ -72,3 +84,6 @@ known_of g = map formula_tree g.known
 
 abbrev pub check_of : Goal → Tree
 check_of g = formula_tree g.check
+
+abbrev pub parts_of : Goal → List Tree × Tree
+parts_of g = (known_of g, check_of g)

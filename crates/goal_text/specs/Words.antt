@@ -1,11 +1,6 @@
--- Which head, or which kind, a word names.
+-- Which head a word names.
 use Rattle.std.specs.Prelude.{ℕ, List, [], ◌∷◌, codes, Option, Some, None, if◌then◌else◌}
-use Rattle.std.specs.Option.{option_map}
 use Rattle.std.specs.Str.{bytes_eq}
-use Rattle.wp_base.specs.declared.kinds.Kind.{Kind}
-use Rattle.wp_base.specs.declared.kinds.Kind.TheVariants as kind
-use Rattle.wp_base.specs.declared.kinds.CellKind.{CellKind}
-use Rattle.wp_base.specs.declared.kinds.CellKind.TheVariants as cell
 use Rattle.qed_terms.specs.declared.head.Sort.{Sort}
 use Rattle.qed_terms.specs.declared.head.Sort.TheVariants as sort
 use Rattle.qed_terms.specs.declared.head.Shape.{Shape}
@@ -14,11 +9,6 @@ use Rattle.goal_text.specs.declared.words.TermWord.{TermWord}
 use Rattle.goal_text.specs.declared.words.TermWord.TheVariants as t
 use Rattle.goal_text.specs.declared.words.FormWord.{FormWord}
 use Rattle.goal_text.specs.declared.words.FormWord.TheVariants as f
-
--- what stands beside the word in a table
-abbrev pub row_of : {X : Type 0} → List (List ℕ × X) → List ℕ → Option X
-row_of [] word = None
-row_of (row ∷ rows) word = if bytes_eq row.0 word then Some row.1 else row_of rows word
 
 unfoldable pub term_words : List (List ℕ × TermWord)
 term_words =
@@ -33,15 +23,6 @@ form_words =
     ∷ (codes "or", f.Or) ∷ (codes "imp", f.Imp) ∷ (codes "iff", f.Iff) ∷ (codes "forall", f.Forall) ∷ (codes "exists", f.Exists)
     ∷ (codes "read", f.Read) ∷ (codes "write", f.Write) ∷ (codes "live", f.Live) ∷ (codes "has", f.Has) ∷ (codes "wf", f.WellFormed)
     ∷ (codes "frame", f.Frame) ∷ []
-
-unfoldable pub kind_words : List (List ℕ × Kind)
-kind_words =
-    (codes "bool", kind.Bool) ∷ (codes "char", kind.Char) ∷ (codes "schar", kind.SChar) ∷ (codes "uchar", kind.UChar)
-    ∷ (codes "short", kind.Short) ∷ (codes "ushort", kind.UShort) ∷ (codes "int", kind.Int) ∷ (codes "uint", kind.UInt)
-    ∷ (codes "long", kind.Long) ∷ (codes "ulong", kind.ULong) ∷ (codes "llong", kind.LLong) ∷ (codes "ullong", kind.ULLong) ∷ []
-
-abbrev pub cell_of : List ℕ → Option CellKind
-cell_of word = if bytes_eq word (codes "ptr") then Some cell.Ptr else option_map cell.Of (row_of kind_words word)
 
 -- the sort of what a head of terms makes
 abbrev pub sort_of : TermWord → Sort

@@ -1,16 +1,18 @@
-// Layouts, read from a text.
+// Brackets and layouts, read from a text.
 ghost use Rattle.std.specs.Prelude.{◌≡◌, [], length};
+ghost use Rattle.goal_words.specs.Bytes as front;
+ghost use Rattle.goal_words.specs.Kinds.{cell_word};
 ghost use Rattle.goal_text.specs.Reader as spec;
 ghost use Rattle.goal_text.specs.Views.{Gives, GivesRest, same};
 
 use crate::answer::GoalText;
-use crate::scan::{after_byte, cell_word, count_part, flag_part, word};
+use goal_words::{after_byte, cell_word, count_part, flag_part, word};
 use std::alloc::Global;
 use wp_base::{CellKind, Layout, List};
 
 /// What comes after this byte, which has to stand here.
 pub fn expect(byte: u8, bytes: &[u8]) -> Result<&[u8], GoalText>
-    ensures { GivesRest result (spec.expect byte bytes.now) }
+    ensures { GivesRest result (front.expect byte bytes.now) }
 {
     match after_byte(byte, bytes) {
         Some(rest) => Ok(rest),
@@ -18,10 +20,23 @@ pub fn expect(byte: u8, bytes: &[u8]) -> Result<&[u8], GoalText>
     }
 }
 
+/// What comes after a bracket that opens and this word, which have to stand here.
+pub fn opened<'a>(name: &[u8], bytes: &'a [u8]) -> Result<&'a [u8], GoalText>
+    ensures { GivesRest result (spec.opened name.now bytes.now) }
+{
+    let rest = expect(b'(', bytes)?;
+    let (found, rest) = word(rest);
+    if found == name {
+        Ok(rest)
+    } else {
+        Err(GoalText::NotAGoal)
+    }
+}
+
 // The kinds of cells, each behind a space.
 #[tactic(auto, using(crate::proofs::Steps::repeat_stops, crate::proofs::Steps::repeat_over))]
 fn cells<'a>(alloc: Global, bytes: &'a [u8]) -> Result<(List<CellKind>, &'a [u8]), GoalText>
-    ensures { Gives same result (spec.repeat (spec.one_more spec.cell_word) (length bytes.now) [] bytes.now) }
+    ensures { Gives same result (spec.repeat (spec.one_more cell_word) (length bytes.now) [] bytes.now) }
 {
     let mut cells = List::new(alloc);
     let mut rest = bytes;
@@ -65,12 +80,7 @@ fn layout_inside(alloc: Global, bytes: &[u8]) -> Result<(Layout, &[u8]), GoalTex
 pub fn layout_part(alloc: Global, bytes: &[u8]) -> Result<(Layout, &[u8]), GoalText>
     ensures { Gives same result (spec.layout_part bytes.now) }
 {
-    const LAY: &[u8] = b"lay";
     let rest = expect(b' ', bytes)?;
-    let rest = expect(b'(', rest)?;
-    let (found, rest) = word(rest);
-    if found != LAY {
-        return Err(GoalText::NotAGoal);
-    }
+    let rest = opened(b"lay", rest)?;
     layout_inside(alloc, rest)
 }

@@ -2,11 +2,14 @@
 #![tactic(auto)]
 
 mod answer;
+mod around;
+mod fronts;
+mod kids;
 mod laws;
 mod layout;
 mod leaves;
+mod made;
 mod read;
-mod scan;
 mod terms;
 mod words;
 mod write;

@@ -1,9 +1,10 @@
-// The words of heads and kinds.
-ghost use Rattle.std.specs.Prelude.{◌≡◌, map};
+// The words of heads.
+ghost use Rattle.std.specs.Prelude.{◌≡◌};
+ghost use Rattle.goal_words.specs.Kinds.{row_of};
 ghost use Rattle.goal_text.specs.Words as spec;
 
+use goal_words::row_of;
 use qed_terms::{Shape, Sort};
-use wp_base::{CellKind, Kind};
 
 /// The word of a head of terms.
 #[derive(Clone, Copy)]
@@ -53,7 +54,7 @@ pub enum FormWord {
     Frame,
 }
 
-pub const TERM_WORDS: [(&[u8], TermWord); 21] = [
+const TERM_WORDS: [(&[u8], TermWord); 21] = [
     (b"+", TermWord::Add),
     (b"-", TermWord::Sub),
     (b"*", TermWord::Mul),
@@ -77,7 +78,7 @@ pub const TERM_WORDS: [(&[u8], TermWord); 21] = [
     (b"grow", TermWord::Grow),
 ];
 
-pub const FORM_WORDS: [(&[u8], FormWord); 17] = [
+const FORM_WORDS: [(&[u8], FormWord); 17] = [
     (b"=", FormWord::Equal),
     (b"<=", FormWord::AtMost),
     (b"<", FormWord::Less),
@@ -97,62 +98,21 @@ pub const FORM_WORDS: [(&[u8], FormWord); 17] = [
     (b"frame", FormWord::Frame),
 ];
 
-pub const KIND_WORDS: [(&[u8], Kind); 12] = [
-    (b"bool", Kind::Bool),
-    (b"char", Kind::Char),
-    (b"schar", Kind::SChar),
-    (b"uchar", Kind::UChar),
-    (b"short", Kind::Short),
-    (b"ushort", Kind::UShort),
-    (b"int", Kind::Int),
-    (b"uint", Kind::UInt),
-    (b"long", Kind::Long),
-    (b"ulong", Kind::ULong),
-    (b"llong", Kind::LLong),
-    (b"ullong", Kind::ULLong),
-];
-
-// What stands beside the word in the table.
-fn row_of<T: Copy>(mut table: &[(&[u8], T)], word: &[u8]) -> Option<T>
-    ensures { result ≡ spec.row_of (map (λ row. (row.0.now, row.1)) table.entry.now) word.now }
-{
-    while let [row, rest @ ..] = table {
-        if row.0 == word {
-            return Some(row.1);
-        }
-        table = rest;
-    }
-    None
-}
-
+/// The head of terms that a word names.
 pub fn term_word(word: &[u8]) -> Option<TermWord>
-    ensures { result ≡ spec.row_of spec.term_words word.now }
+    ensures { result ≡ row_of spec.term_words word.now }
 {
     row_of(&TERM_WORDS, word)
 }
 
+/// The head of formulas that a word names.
 pub fn form_word(word: &[u8]) -> Option<FormWord>
-    ensures { result ≡ spec.row_of spec.form_words word.now }
+    ensures { result ≡ row_of spec.form_words word.now }
 {
     row_of(&FORM_WORDS, word)
 }
 
-pub fn kind_of(word: &[u8]) -> Option<Kind>
-    ensures { result ≡ spec.row_of spec.kind_words word.now }
-{
-    row_of(&KIND_WORDS, word)
-}
-
-pub fn cell_of(word: &[u8]) -> Option<CellKind>
-    ensures { result ≡ spec.cell_of word.now }
-{
-    const PTR: &[u8] = b"ptr";
-    if word == PTR {
-        return Some(CellKind::Ptr);
-    }
-    Some(CellKind::Of(kind_of(word)?))
-}
-
+/// The shape of a region that a word names.
 pub fn shape_of(word: &[u8]) -> Option<Shape>
     ensures { result ≡ spec.shape_of word.now }
 {

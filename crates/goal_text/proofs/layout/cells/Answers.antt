@@ -1,5 +1,6 @@
 use Rattle.std.proofs.Common.{◌-◌, ◌+◌, length, arith, sym, ap, ◌∙◌}
-use Rattle.goal_text.specs.Reader.{repeat, one_more, cell_word}
+use Rattle.goal_words.specs.Kinds.{cell_word}
+use Rattle.goal_text.specs.Reader.{repeat, one_more}
 use Rattle.goal_text.proofs.Steps.{list_turn, list_fault}
 use Rattle.goal_text.proofs.layout.cells.Goals as goal
 

@@ -1,5 +1,5 @@
 use Rattle.std.proofs.Common.{ap, ◌∙◌}
-use Rattle.goal_text.specs.Words.{row_of}
+use Rattle.goal_words.specs.Kinds.{row_of}
 use Rattle.goal_text.proofs.Naming.{term_rows}
 use Rattle.goal_text.proofs.words.term_word.Goals as goal
 

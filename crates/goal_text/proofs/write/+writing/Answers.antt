@@ -1,29 +1,26 @@
-use Rattle.std.proofs.Common.{arith, length, min, ap, ◌∙◌}
-use Rattle.std.proofs.lemmas.List.{take_rest}
-use Rattle.qed_terms.proofs.term.Term.TheLaws.{the_size}
-use Rattle.goal_text.proofs.Writing.{most_take, most_drop, frame_held, region_next}
+use Rattle.std.proofs.Common.{◌-◌, ap, arith, min, ◌∙◌, refl}
+use Rattle.qed_terms.proofs.Sizes.{size-kid}
+use Rattle.qed_terms.specs.Nodes.{kids_of, node_tree}
+use Rattle.qed_terms.specs.Tree.{size}
+use Rattle.goal_text.proofs.Writing.{kid_put, frame_turn, laid_put}
 use Rattle.goal_text.proofs.write.+writing.Goals as goal
 
-pub put_frame-put_terms-requires : goal.put_frame-put_terms-requires
-put_frame-put_terms-requires t c = (omega (arith, c.decreases, most_take (λ x. the_size x) c.min-memories.result c.args.kids.now), tt)
+pub put_node-returns-in_ok-put_close-in-Laid : goal.put_node-returns-in_ok-put_close-in-Laid
+put_node-returns-in_ok-put_close-in-Laid t c =
+    laid_put _ _ (node_tree c.args.node) c.kid_count-count.result _ _ _ _ _ c.in-Laid.ensures c.kid_count-count.ensures c.in_ok-put_open-in-Laid.ensures c.in_ok-put_kids-in-Laid.ensures c.in_ok-put_layout-in-Laid.ensures.text
+    c.in_ok-put_layout-in-Laid.ensures.held c.in_ok-put_close-in-Laid.ensures
 
-pub put_frame-put_regions-requires : goal.put_frame-put_regions-requires
-put_frame-put_regions-requires t c = (rw take_rest (omega (arith, c.decreases, most_drop (λ x. the_size x) c.min-memories.result c.args.kids.now)), tt)
+pub put_kids-put_node-requires : goal.put_kids-put_node-requires
+put_kids-put_node-requires t c =
+    let k = size-kid (node_tree c.args.node) c.loop-at.at (omega (arith, c.loop-at-test.true, c.requires)) in
+    let e = ap size c.kid.ensures in
+    (omega (arith, k, e, c.decreases), tt)
 
-pub put_regions-put_region-requires : goal.put_regions-put_region-requires
-put_regions-put_region-requires t c =
-    (omega (arith, c.decreases, most_take (λ x. the_size x) c.min-width.result c.loop-shape.rest.now, c.loop-shape.invariant.smaller (λ x. the_size x)), tt)
+pub put_kids-loop-at-preserved : goal.put_kids-loop-at-preserved
+put_kids-loop-at-preserved t c =
+    kid_put (kids_of (node_tree c.args.node)) c.loop-at.at c.args.end c.args.from (node_tree c.kid.result) _ _ _ _ (omega (arith, c.loop-at-test.true)) c.requires c.kid.ensures c.in_ok-put.ensures c.in_ok-put_node.ensures c.loop-at.invariant
 
-pub put_regions-put_terms-requires : goal.put_regions-put_terms-requires
-put_regions-put_terms-requires t c = (omega (arith, c.decreases, c.loop-shape.invariant.smaller (λ x. the_size x)), tt)
-
-pub put_regions-loop-shape-preserved : goal.put_regions-loop-shape-preserved
-put_regions-loop-shape-preserved t c =
-    let rest = c.loop-shape.rest.now in
-    let w = c.min-width.result in
-    let inv = c.loop-shape.invariant in
-    record {
-      text = rw take_rest (region_next c.args.shapes.now c.loop-shape.shape-index _ rest w c.loop-shape.text.items _ _ (omega arith) (c.min-width.ensures ∙ ap (λ n. min n (length rest)) c.shape_width.ensures) c.in_ok-put_region.ensures.text inv.text);
-      held = rw take_rest (λ h. inv.held (frame_held w rest c.in_ok-put_region.ensures.held h));
-      smaller = rw take_rest (λ size. omega (arith, most_drop size w rest, inv.smaller size));
-    }
+pub put_frame-loop-shape-preserved : goal.put_frame-loop-shape-preserved
+put_frame-loop-shape-preserved t c =
+    frame_turn c.args.shapes.now c.loop-shape.shape-index _ (kids_of (node_tree c.args.node)) c.loop-shape.at c.kid_count-count.result c.min-width.result _ _ _ _ (omega arith) c.kid_count-count.ensures
+    (c.min-width.ensures ∙ ap (λ n. min n (c.kid_count-count.result - c.loop-shape.at)) c.shape_width.ensures) refl c.in_ok-put_region.ensures c.loop-shape.invariant

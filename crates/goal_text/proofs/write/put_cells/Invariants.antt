@@ -1,5 +1,6 @@
 use Rattle.std.proofs.Common.{◌≡◌, ◌++◌, map, drop}
-use Rattle.goal_text.specs.Text.{spaced, cell_text}
+use Rattle.goal_words.specs.Kinds.{cell_text}
+use Rattle.goal_text.specs.Text.{spaced}
 use Rattle.goal_text.proofs.write.put_cells.Given as goal
 
 -- what is written and what is to come are the whole

@@ -1,0 +1,3 @@
+pub mod Naming
+pub mod Numerals
+pub mod Front

@@ -16,9 +16,11 @@ use Rattle.goal_text.specs.Reader.{Inner, Kids, opened, no_kids}
 use Rattle.goal_text.specs.Views.{GivesOne, check_of, known_of, parts_of}
 use Rattle.goal_text.specs.declared.answer.GoalText.{GoalText}
 use Rattle.goal_text.specs.declared.answer.GoalText.TheVariants.{NotAGoal, NoMemory}
-use Rattle.goal_text.proofs.Complete.{ReadsUpTo, any_read, bracket_long, opened_read, part_long, tree_read}
+use Rattle.goal_text.proofs.Complete.{tree_read}
+use Rattle.goal_text.proofs.CompleteKids.{ReadsUpTo, any_read, bracket_long, opened_read, part_long}
 use Rattle.goal_text.proofs.Pieces.{bracket_rest, spaced_ends}
-use Rattle.goal_text.proofs.Sound.{Sound, any_sound, each_fits, opened_is, texts_of, tree_sound}
+use Rattle.goal_text.proofs.Sound.{tree_sound}
+use Rattle.goal_text.proofs.SoundKids.{Sound, any_sound, each_fits, opened_is, texts_of}
 
 all_are_held : (ts : List Tree) → all_held (trees_of ts) ≡ list_all is_held ts
 all_are_held [] = refl

@@ -3,6 +3,8 @@ pub mod Pieces
 pub mod Steps
 pub mod Writing
 pub mod Rows
+pub mod SoundKids
 pub mod Sound
+pub mod CompleteKids
 pub mod Complete
 pub mod Exact

@@ -1,83 +1,76 @@
 // Contracts and the annotations of loops, printed.
 
-use crate::pieces::{close, open, open_clause, put, put_line, put_name, put_number};
-use crate::preds::show_pred;
-use crate::terms::{show_term, show_terms};
+use crate::preds::write_pred;
+use crate::terms::{write_term, write_terms};
 use c_syntax::{AssignsClause, Behavior, Clause, Contract, LoopAnnot, Measure, Names};
-use wp_base::NoMemory;
+use test_lines::Page;
 
-fn show_clauses(out: &mut Vec<u8>, head: &str, clauses: &[Clause]) -> Result<(), NoMemory> {
+fn write_clauses(page: &mut Page, head: &str, clauses: &[Clause]) {
     for clause in clauses {
-        open_clause(out, head, clause.line, clause.place)?;
-        put(out, b" ")?;
-        show_pred(out, &clause.pred)?;
-        close(out)?;
+        page.open_clause(head, clause.line, clause.place);
+        write_pred(page, &clause.pred);
+        page.close();
     }
-    Ok(())
 }
 
-fn show_assigns(out: &mut Vec<u8>, clause: &AssignsClause) -> Result<(), NoMemory> {
+// The set, and the lines of the words `\from`.
+fn write_assigns(page: &mut Page, clause: &AssignsClause) {
     if let Some(set) = &clause.set {
-        open_clause(out, "assigns", clause.line, clause.place)?;
-        show_terms(out, set.as_slice())?;
+        page.open_clause("assigns", clause.line, clause.place);
+        write_terms(page, set.as_slice());
         for line in clause.from.as_slice() {
-            put(out, b" from")?;
-            put_line(out, *line)?;
+            page.put_leaf(b"from", *line);
         }
-        close(out)?;
+        page.close();
     }
-    Ok(())
 }
 
-fn show_measure(out: &mut Vec<u8>, head: &str, measure: &Option<Measure>) -> Result<(), NoMemory> {
+fn write_measure(page: &mut Page, head: &str, measure: &Option<Measure>) {
     if let Some(measure) = measure {
-        open_clause(out, head, measure.line, measure.place)?;
-        put(out, b" ")?;
-        show_term(out, &measure.term)?;
-        close(out)?;
+        page.open_clause(head, measure.line, measure.place);
+        write_term(page, &measure.term);
+        page.close();
     }
-    Ok(())
 }
 
-fn show_behavior(out: &mut Vec<u8>, behavior: &Behavior) -> Result<(), NoMemory> {
-    open_clause(out, "behavior", behavior.line, behavior.place)?;
-    put_name(out, behavior.name.bytes())?;
-    show_clauses(out, "assumes", behavior.assumes.as_slice())?;
-    show_clauses(out, "requires", behavior.requires_.as_slice())?;
-    show_assigns(out, &behavior.assigns)?;
-    show_clauses(out, "ensures", behavior.ensures_.as_slice())?;
-    close(out)
+fn write_behavior(page: &mut Page, behavior: &Behavior) {
+    page.open_clause("behavior", behavior.line, behavior.place);
+    page.put_name(behavior.name.bytes());
+    write_clauses(page, "assumes", behavior.assumes.as_slice());
+    write_clauses(page, "requires", behavior.requires_.as_slice());
+    write_assigns(page, &behavior.assigns);
+    write_clauses(page, "ensures", behavior.ensures_.as_slice());
+    page.close();
 }
 
-fn show_names(out: &mut Vec<u8>, head: &str, all: &[Names]) -> Result<(), NoMemory> {
+fn write_names(page: &mut Page, head: &str, all: &[Names]) {
     for names in all {
-        open_clause(out, head, names.line, names.place)?;
+        page.open_clause(head, names.line, names.place);
         for name in names.names.as_slice() {
-            put_name(out, name.bytes())?;
+            page.put_name(name.bytes());
         }
-        close(out)?;
+        page.close();
     }
-    Ok(())
 }
 
-pub fn show_contract(out: &mut Vec<u8>, contract: &Contract) -> Result<(), NoMemory> {
-    put(out, b" (contract")?;
-    show_clauses(out, "requires", contract.requires_.as_slice())?;
-    show_assigns(out, &contract.assigns)?;
-    show_clauses(out, "ensures", contract.ensures_.as_slice())?;
-    show_measure(out, "decreases", &contract.decreases_)?;
+pub fn write_contract(page: &mut Page, contract: &Contract) {
+    page.open("contract", 1);
+    write_clauses(page, "requires", contract.requires_.as_slice());
+    write_assigns(page, &contract.assigns);
+    write_clauses(page, "ensures", contract.ensures_.as_slice());
+    write_measure(page, "decreases", &contract.decreases_);
     for behavior in contract.behaviors.as_slice() {
-        show_behavior(out, behavior)?;
+        write_behavior(page, behavior);
     }
-    show_names(out, "complete", contract.complete.as_slice())?;
-    show_names(out, "disjoint", contract.disjoint.as_slice())?;
-    close(out)
+    write_names(page, "complete", contract.complete.as_slice());
+    write_names(page, "disjoint", contract.disjoint.as_slice());
+    page.close();
 }
 
-pub fn show_loop(out: &mut Vec<u8>, annot: &LoopAnnot) -> Result<(), NoMemory> {
-    put(out, b" (loop")?;
-    show_clauses(out, "invariant", annot.invariants.as_slice())?;
-    show_assigns(out, &annot.assigns)?;
-    show_measure(out, "variant", &annot.variant)?;
-    close(out)
+pub fn write_loop(page: &mut Page, annot: &LoopAnnot) {
+    page.open("loop", 1);
+    write_clauses(page, "invariant", annot.invariants.as_slice());
+    write_assigns(page, &annot.assigns);
+    write_measure(page, "variant", &annot.variant);
+    page.close();
 }

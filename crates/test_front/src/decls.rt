@@ -1,99 +1,88 @@
-// Declarations and programs, printed one a line.
+// Declarations, printed.
 
-use crate::annots::show_contract;
-use crate::exprs::{show_type, show_var, show_vars};
-use crate::pieces::{close, open, put, put_name, put_number};
-use crate::preds::show_pred;
-use crate::stmts::show_stmt;
-use crate::terms::show_term;
-use c_syntax::{Decl, Function, LogicBody, LogicDecl, Program, VarDecl};
-use wp_base::NoMemory;
+use crate::annots::write_contract;
+use crate::exprs::{write_type, write_var, write_vars};
+use crate::preds::write_pred;
+use crate::stmts::write_stmt;
+use crate::terms::write_term;
+use c_syntax::{Decl, Function, LogicBody, LogicDecl, VarDecl};
+use test_lines::Page;
 
-fn show_params(out: &mut Vec<u8>, params: &[VarDecl]) -> Result<(), NoMemory> {
-    put(out, b" (params")?;
-    show_vars(out, params)?;
-    close(out)
+fn write_params(page: &mut Page, params: &[VarDecl]) {
+    page.open("params", 1);
+    write_vars(page, params);
+    page.close();
 }
 
-fn show_function(out: &mut Vec<u8>, function: &Function) -> Result<(), NoMemory> {
-    open(out, "function", function.line)?;
-    put_name(out, function.name.bytes())?;
-    put(out, b" ")?;
-    show_type(out, &function.result)?;
-    show_params(out, function.params.as_slice())?;
-    show_contract(out, &function.contract)?;
+fn write_function(page: &mut Page, function: &Function) {
+    page.open("function", function.line);
+    page.put_name(function.name.bytes());
+    write_type(page, &function.result);
+    write_params(page, function.params.as_slice());
+    write_contract(page, &function.contract);
     match &function.body {
-        Some(body) => {
-            put(out, b" ")?;
-            show_stmt(out, body)?;
-        }
-        None => put(out, b" none")?,
+        Some(body) => write_stmt(page, body),
+        None => page.put(" none"),
     }
     if function.end != 1 {
-        put(out, b" end ")?;
-        put_number(out, function.end)?;
+        page.put(" end ");
+        page.put_number(function.end);
     }
-    close(out)
+    page.close();
 }
 
-pub fn show_logic(out: &mut Vec<u8>, logic: &LogicDecl) -> Result<(), NoMemory> {
-    match &logic.result {
-        Some(of) => {
-            open(out, "logic", logic.line)?;
-            put_name(out, logic.name.bytes())?;
-            put(out, b" ")?;
-            show_type(out, of)?;
-        }
-        None => {
-            open(out, "predicate", logic.line)?;
-            put_name(out, logic.name.bytes())?;
-        }
+pub fn write_logic(page: &mut Page, logic: &LogicDecl) {
+    let head = match &logic.result {
+        Some(_) => "logic",
+        None => "predicate",
+    };
+    page.open(head, logic.line);
+    page.put_name(logic.name.bytes());
+    if let Some(of) = &logic.result {
+        write_type(page, of);
     }
-    show_params(out, logic.params.as_slice())?;
-    put(out, b" ")?;
+    write_params(page, logic.params.as_slice());
     match &logic.body {
-        LogicBody::Term(term) => show_term(out, term)?,
-        LogicBody::Pred(pred) => show_pred(out, pred)?,
+        LogicBody::Term(term) => write_term(page, term),
+        LogicBody::Pred(pred) => write_pred(page, pred),
     }
-    close(out)
+    page.close();
 }
 
-fn show_decl(out: &mut Vec<u8>, decl: &Decl) -> Result<(), NoMemory> {
+fn write_decl(page: &mut Page, decl: &Decl) {
     match decl {
         Decl::Struct(tagged) => {
-            open(out, "struct", tagged.line)?;
-            put_name(out, tagged.name.bytes())?;
-            show_vars(out, tagged.fields.as_slice())?;
-            close(out)
+            page.open("struct", tagged.line);
+            page.put_name(tagged.name.bytes());
+            write_vars(page, tagged.fields.as_slice());
+            page.close();
         }
         Decl::Enum(tagged) => {
-            open(out, "enum", tagged.line)?;
+            page.open("enum", tagged.line);
             match &tagged.name {
-                Some(name) => put_name(out, name.bytes())?,
-                None => put(out, b" none")?,
+                Some(name) => page.put_name(name.bytes()),
+                None => page.put(" none"),
             }
-            show_vars(out, tagged.items.as_slice())?;
-            close(out)
+            write_vars(page, tagged.items.as_slice());
+            page.close();
         }
         Decl::Typedef(var) => {
-            put(out, b"(typedef")?;
-            show_var(out, var)?;
-            close(out)
+            page.open("typedef", 1);
+            write_var(page, var);
+            page.close();
         }
         Decl::Globals(vars) => {
-            put(out, b"(globals")?;
-            show_vars(out, vars.as_slice())?;
-            close(out)
+            page.open("globals", 1);
+            write_vars(page, vars.as_slice());
+            page.close();
         }
-        Decl::Function(function) => show_function(out, function),
-        Decl::Logic(logic) => show_logic(out, logic),
+        Decl::Function(function) => write_function(page, function),
+        Decl::Logic(logic) => write_logic(page, logic),
     }
 }
 
-pub fn show_program(out: &mut Vec<u8>, program: &Program) -> Result<(), NoMemory> {
-    for decl in program.decls.as_slice() {
-        show_decl(out, decl)?;
-        put(out, b"\n")?;
+pub fn write_decls(page: &mut Page, decls: &[Decl]) {
+    for decl in decls {
+        write_decl(page, decl);
     }
-    Ok(())
 }

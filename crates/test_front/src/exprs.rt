@@ -1,279 +1,193 @@
-// Types and expressions, printed.
+// Types, expressions and variables, printed. Each tree stands behind a space.
 
-use crate::pieces::{close, open, put, put_line, put_name, put_number};
-use c_syntax::{Base, BinOp, CType, Expr, ExprNode, Suffix, Token, TokenKind, UnOp, VarDecl};
-use wp_base::{Kind, Line, NoMemory, Str};
-
-fn kind_name(kind: Kind) -> &'static str {
-    match kind {
-        Kind::Bool => "bool",
-        Kind::Char => "char",
-        Kind::SChar => "schar",
-        Kind::UChar => "uchar",
-        Kind::Short => "short",
-        Kind::UShort => "ushort",
-        Kind::Int => "int",
-        Kind::UInt => "uint",
-        Kind::Long => "long",
-        Kind::ULong => "ulong",
-        Kind::LLong => "llong",
-        Kind::ULLong => "ullong",
-    }
-}
-
-pub fn prefix_name(op: UnOp) -> &'static str {
-    match op {
-        UnOp::AddressOf => "address",
-        UnOp::Deref => "deref",
-        UnOp::Plus => "plus",
-        UnOp::Minus => "minus",
-        UnOp::BitNot => "~",
-        UnOp::Not => "!",
-    }
-}
-
-pub fn operator_name(op: BinOp) -> &'static str {
-    match op {
-        BinOp::Mul => "*",
-        BinOp::Div => "/",
-        BinOp::Rem => "%",
-        BinOp::Add => "+",
-        BinOp::Sub => "-",
-        BinOp::Shl => "<<",
-        BinOp::Shr => ">>",
-        BinOp::Less => "<",
-        BinOp::AtMost => "<=",
-        BinOp::Greater => ">",
-        BinOp::AtLeast => ">=",
-        BinOp::Equal => "==",
-        BinOp::NotEqual => "!=",
-        BinOp::BitAnd => "&",
-        BinOp::BitXor => "^",
-        BinOp::BitOr => "|",
-        BinOp::And => "&&",
-        BinOp::Or => "||",
-    }
-}
-
-fn suffix_name(suffix: Suffix) -> &'static str {
-    match suffix {
-        Suffix::None => "",
-        Suffix::U => "u",
-        Suffix::L => "l",
-        Suffix::UL => "ul",
-        Suffix::LL => "ll",
-        Suffix::ULL => "ull",
-    }
-}
-
-fn base_name(base: Base) -> &'static str {
-    match base {
-        Base::Decimal => "",
-        Base::Octal => "octal",
-        Base::Hexadecimal => "hex",
-    }
-}
+use crate::names::{
+    base_name, field_name, kind_name, operator_name, prefix_name, step_name, suffix_name,
+};
+use c_syntax::{CType, Expr, ExprNode, Token, TokenKind, VarDecl};
+use test_lines::Page;
+use wp_base::Line;
 
 /// A number: its value, its base and its suffix.
-pub fn show_number(out: &mut Vec<u8>, token: &Token, line: Line) -> Result<(), NoMemory> {
+pub fn write_number(page: &mut Page, token: &Token, line: Line) {
+    page.put(" ");
     if let TokenKind::Number {
         value,
         base,
         suffix,
     } = &token.kind
     {
-        put_number(out, *value)?;
-        put(out, base_name(*base).as_bytes())?;
-        put(out, suffix_name(*suffix).as_bytes())?;
+        page.put_number(*value);
+        page.put(base_name(*base));
+        page.put(suffix_name(*suffix));
     }
-    put_line(out, token.line)?;
+    page.put_line(token.line);
     if token.line != line {
-        put(out, b"!")?;
-    }
-    Ok(())
-}
-
-pub fn show_char(out: &mut Vec<u8>, value: i128, line: Line) -> Result<(), NoMemory> {
-    put(out, b"'")?;
-    put_number(out, value)?;
-    put(out, b"'")?;
-    put_line(out, line)
-}
-
-pub fn show_leaf(out: &mut Vec<u8>, name: &[u8], line: Line) -> Result<(), NoMemory> {
-    put(out, name)?;
-    put_line(out, line)
-}
-
-fn show_tagged(out: &mut Vec<u8>, head: &[u8], name: &Str) -> Result<(), NoMemory> {
-    put(out, head)?;
-    put_name(out, name.bytes())?;
-    close(out)
-}
-
-pub fn step_name(up: bool, prefix: bool) -> &'static str {
-    match (up, prefix) {
-        (true, true) => "++x",
-        (true, false) => "x++",
-        (false, true) => "--x",
-        (false, false) => "x--",
+        page.put("!");
     }
 }
 
-#[cycle(exprs)]
-pub fn show_type(out: &mut Vec<u8>, of: &CType) -> Result<(), NoMemory> {
+pub fn write_char(page: &mut Page, value: i128, line: Line) {
+    page.put(" '");
+    page.put_number(value);
+    page.put("'");
+    page.put_line(line);
+}
+
+// The head of a type that has parts.
+fn type_head(of: &CType) -> &'static str {
     match of {
-        CType::Void => put(out, b"void"),
-        CType::Kind(kind) => put(out, kind_name(*kind).as_bytes()),
-        CType::Integer => put(out, b"integer"),
-        CType::Struct(name) => show_tagged(out, b"(struct", name),
-        CType::Enum(name) => show_tagged(out, b"(enum", name),
-        CType::Named(name) => show_tagged(out, b"(type", name),
-        CType::Pointer(to) => {
-            put(out, b"(ptr ")?;
-            show_type(out, to.get())?;
-            close(out)
-        }
+        CType::Void | CType::Kind(_) | CType::Integer => "",
+        CType::Struct(_) => "struct",
+        CType::Enum(_) => "enum",
+        CType::Named(_) => "type",
+        CType::Pointer(_) => "ptr",
+        CType::Array(_, _) => "array",
+        CType::Const(_) => "const",
+    }
+}
+
+// The name of a type that has no parts.
+fn type_name(of: &CType) -> Option<&'static str> {
+    match of {
+        CType::Void => Some("void"),
+        CType::Kind(kind) => Some(kind_name(*kind)),
+        CType::Integer => Some("integer"),
+        _ => None,
+    }
+}
+
+#[cycle(exprs)]
+pub fn write_type(page: &mut Page, of: &CType) {
+    if let Some(name) = type_name(of) {
+        page.put_name(name.as_bytes());
+        return;
+    }
+    page.open(type_head(of), 1);
+    match of {
+        CType::Void | CType::Kind(_) | CType::Integer => {}
+        CType::Struct(name) | CType::Enum(name) | CType::Named(name) => page.put_name(name.bytes()),
+        CType::Pointer(to) | CType::Const(to) => write_type(page, to.get()),
         CType::Array(of, length) => {
-            put(out, b"(array ")?;
-            show_type(out, of.get())?;
-            also(out, length.get())?;
-            close(out)
+            write_type(page, of.get());
+            write_expr(page, length.get());
         }
-        CType::Const(of) => {
-            put(out, b"(const ")?;
-            show_type(out, of.get())?;
-            close(out)
-        }
+    }
+    page.close();
+}
+
+// The head of an expression that has parts.
+fn expr_head(node: &ExprNode) -> &'static str {
+    match node {
+        ExprNode::Number(_) | ExprNode::Char(_) | ExprNode::Name(_) => "",
+        ExprNode::Unary(op, _) => prefix_name(*op),
+        ExprNode::Binary(op, _, _) => operator_name(*op),
+        ExprNode::Cond(_, _, _) => "?",
+        ExprNode::Assign(op, _, _) => match op {
+            Some(op) => operator_name(*op),
+            None => "=",
+        },
+        ExprNode::Step { up, prefix, of: _ } => step_name(*up, *prefix),
+        ExprNode::Call(_, _) => "call",
+        ExprNode::Index(_, _) => "index",
+        ExprNode::Field {
+            of: _,
+            name: _,
+            arrow,
+        } => field_name(*arrow),
+        ExprNode::Cast(_, _) => "cast",
+        ExprNode::SizeOf(_) => "sizeof",
     }
 }
 
-// An expression behind a space.
-#[cycle(exprs)]
-fn also(out: &mut Vec<u8>, expr: &Expr) -> Result<(), NoMemory> {
-    put(out, b" ")?;
-    show_expr(out, expr)
-}
-
-#[cycle(exprs)]
-fn args_of(out: &mut Vec<u8>, args: &[Expr]) -> Result<(), NoMemory> {
-    for arg in args {
-        put(out, b" ")?;
-        show_expr(out, arg)?;
+// Whether the expression has no parts; then it is written.
+fn is_leaf(page: &mut Page, node: &ExprNode, line: Line) -> bool {
+    match node {
+        ExprNode::Number(token) => write_number(page, token, line),
+        ExprNode::Char(value) => write_char(page, *value, line),
+        ExprNode::Name(name) => page.put_leaf(name.bytes(), line),
+        _ => return false,
     }
-    close(out)
+    true
 }
 
 #[cycle(exprs)]
-pub fn show_expr(out: &mut Vec<u8>, expr: &Expr) -> Result<(), NoMemory> {
-    let line = expr.line;
-    match &expr.node {
-        ExprNode::Number(token) => show_number(out, token, line),
-        ExprNode::Char(value) => show_char(out, *value, line),
-        ExprNode::Name(name) => show_leaf(out, name.bytes(), line),
-        ExprNode::Unary(op, of) => {
-            open(out, prefix_name(*op), line)?;
-            put(out, b" ")?;
-            show_expr(out, of.get())?;
-            close(out)
+fn write_exprs(page: &mut Page, exprs: &[Expr]) {
+    for expr in exprs {
+        write_expr(page, expr);
+    }
+}
+
+#[cycle(exprs)]
+fn write_parts(page: &mut Page, node: &ExprNode) {
+    match node {
+        ExprNode::Number(_) | ExprNode::Char(_) | ExprNode::Name(_) => {}
+        ExprNode::Unary(_, of) => write_expr(page, of.get()),
+        ExprNode::Step {
+            up: _,
+            prefix: _,
+            of,
+        } => write_expr(page, of.get()),
+        ExprNode::Binary(_, left, right) | ExprNode::Index(left, right) => {
+            write_expr(page, left.get());
+            write_expr(page, right.get());
         }
-        ExprNode::Binary(op, left, right) => {
-            open(out, operator_name(*op), line)?;
-            also(out, left.get())?;
-            also(out, right.get())?;
-            close(out)
+        ExprNode::Assign(op, left, right) => {
+            if op.is_some() {
+                page.put("=");
+            }
+            write_expr(page, left.get());
+            write_expr(page, right.get());
         }
         ExprNode::Cond(test, yes, no) => {
-            open(out, "?", line)?;
-            put(out, b" ")?;
-            show_expr(out, test.get())?;
-            put(out, b" ")?;
-            show_expr(out, yes.get())?;
-            put(out, b" ")?;
-            show_expr(out, no.get())?;
-            close(out)
-        }
-        ExprNode::Assign(op, place, value) => {
-            if let Some(op) = op {
-                open(out, operator_name(*op), line)?;
-                put(out, b"=")?;
-            } else {
-                open(out, "=", line)?;
-            }
-            put(out, b" ")?;
-            show_expr(out, place.get())?;
-            put(out, b" ")?;
-            show_expr(out, value.get())?;
-            close(out)
-        }
-        ExprNode::Step { up, prefix, of } => {
-            open(out, step_name(*up, *prefix), line)?;
-            put(out, b" ")?;
-            show_expr(out, of.get())?;
-            close(out)
+            write_expr(page, test.get());
+            write_expr(page, yes.get());
+            write_expr(page, no.get());
         }
         ExprNode::Call(name, args) => {
-            open(out, "call", line)?;
-            put_name(out, name.bytes())?;
-            args_of(out, args.as_slice())
+            page.put_name(name.bytes());
+            write_exprs(page, args.as_slice());
         }
-        ExprNode::Index(of, at) => {
-            open(out, "index", line)?;
-            also(out, of.get())?;
-            also(out, at.get())?;
-            close(out)
-        }
-        ExprNode::Field { of, name, arrow } => {
-            open(out, if *arrow { "->" } else { "." }, line)?;
-            put(out, b" ")?;
-            show_expr(out, of.get())?;
-            put_name(out, name.bytes())?;
-            close(out)
+        ExprNode::Field { of, name, arrow: _ } => {
+            write_expr(page, of.get());
+            page.put_name(name.bytes());
         }
         ExprNode::Cast(to, of) => {
-            open(out, "cast", line)?;
-            put(out, b" ")?;
-            show_type(out, to)?;
-            put(out, b" ")?;
-            show_expr(out, of.get())?;
-            close(out)
+            write_type(page, to);
+            write_expr(page, of.get());
         }
-        ExprNode::SizeOf(of) => {
-            open(out, "sizeof", line)?;
-            put(out, b" ")?;
-            show_type(out, of)?;
-            close(out)
-        }
+        ExprNode::SizeOf(of) => write_type(page, of),
+    }
+}
+
+#[cycle(exprs)]
+pub fn write_expr(page: &mut Page, expr: &Expr) {
+    if !is_leaf(page, &expr.node, expr.line) {
+        page.open(expr_head(&expr.node), expr.line);
+        write_parts(page, &expr.node);
+        page.close();
     }
 }
 
 /// An expression, or `none`.
-pub fn show_some(out: &mut Vec<u8>, expr: &Option<Expr>) -> Result<(), NoMemory> {
+pub fn write_some(page: &mut Page, expr: &Option<Expr>) {
     match expr {
-        Some(expr) => {
-            put(out, b" ")?;
-            show_expr(out, expr)
-        }
-        None => put(out, b" none"),
+        Some(expr) => write_expr(page, expr),
+        None => page.put(" none"),
     }
 }
 
-pub fn show_var(out: &mut Vec<u8>, var: &VarDecl) -> Result<(), NoMemory> {
-    put(out, b" ")?;
-    open(out, "var", var.line)?;
-    put_name(out, var.name.bytes())?;
-    put(out, b" ")?;
-    show_type(out, &var.ty)?;
+pub fn write_var(page: &mut Page, var: &VarDecl) {
+    page.open("var", var.line);
+    page.put_name(var.name.bytes());
+    write_type(page, &var.ty);
     if let Some(init) = &var.init {
-        put(out, b" ")?;
-        show_expr(out, init)?;
+        write_expr(page, init);
     }
-    close(out)
+    page.close();
 }
 
-pub fn show_vars(out: &mut Vec<u8>, vars: &[VarDecl]) -> Result<(), NoMemory> {
+pub fn write_vars(page: &mut Page, vars: &[VarDecl]) {
     for var in vars {
-        show_var(out, var)?;
+        write_var(page, var);
     }
-    Ok(())
 }

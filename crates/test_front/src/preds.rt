@@ -1,129 +1,100 @@
 // Predicates, printed.
 
-use crate::exprs::{operator_name, show_leaf, show_vars};
-use crate::pieces::{close, open, put, put_name};
-use crate::terms::{show_term, show_terms};
-use c_syntax::{BinOp, Pred, PredNode, Term, VarDecl};
-use wp_base::{Line, NoMemory};
+use crate::exprs::write_vars;
+use crate::names::operator_name;
+use crate::terms::{write_term, write_terms};
+use c_syntax::{BinOp, Pred, PredNode, Term};
+use test_lines::Page;
 
 // The terms of a chain, with what stands between them.
-fn show_chain(out: &mut Vec<u8>, terms: &[Term], ops: &[BinOp]) -> Result<(), NoMemory> {
+fn write_chain(page: &mut Page, terms: &[Term], ops: &[BinOp]) {
     let mut rest = ops;
     for term in terms {
-        put(out, b" ")?;
-        show_term(out, term)?;
+        write_term(page, term);
         if let Some((op, after)) = rest.split_first() {
-            put_name(out, operator_name(*op).as_bytes())?;
+            page.put_name(operator_name(*op).as_bytes());
             rest = after;
         }
     }
-    Ok(())
 }
 
-fn show_bound(
-    out: &mut Vec<u8>,
-    head: &str,
-    line: Line,
-    binders: &[VarDecl],
-) -> Result<(), NoMemory> {
-    open(out, head, line)?;
-    show_vars(out, binders)
+// The head of a predicate other than `\true` and `\false`.
+fn pred_head(node: &PredNode) -> &'static str {
+    match node {
+        PredNode::True | PredNode::False => "",
+        PredNode::Not(_) => "not",
+        PredNode::And(_, _) => "and",
+        PredNode::Xor(_, _) => "xor",
+        PredNode::Or(_, _) => "or",
+        PredNode::Implies(_, _) => "implies",
+        PredNode::Iff(_, _) => "iff",
+        PredNode::Cond(_, _, _) => "?",
+        PredNode::Let(_, _, _) => "let",
+        PredNode::Chain(_, _) => "chain",
+        PredNode::Forall(_, _) => "forall",
+        PredNode::Exists(_, _) => "exists",
+        PredNode::Valid(_) => "valid",
+        PredNode::ValidRead(_) => "valid_read",
+        PredNode::Separated(_) => "separated",
+        PredNode::Old(_) => "old",
+        PredNode::Call(_, _) => "call",
+    }
+}
+
+// What a predicate has that are no predicates.
+fn write_own(page: &mut Page, node: &PredNode) {
+    match node {
+        PredNode::Let(name, value, _) => {
+            page.put_name(name.bytes());
+            write_term(page, value.get());
+        }
+        PredNode::Chain(terms, ops) => write_chain(page, terms.as_slice(), ops.as_slice()),
+        PredNode::Forall(binders, _) | PredNode::Exists(binders, _) => {
+            write_vars(page, binders.as_slice())
+        }
+        PredNode::Valid(pointer) | PredNode::ValidRead(pointer) => write_term(page, pointer.get()),
+        PredNode::Separated(pointers) => write_terms(page, pointers.as_slice()),
+        PredNode::Call(name, args) => {
+            page.put_name(name.bytes());
+            write_terms(page, args.as_slice());
+        }
+        _ => {}
+    }
 }
 
 #[cycle(preds)]
-fn also(out: &mut Vec<u8>, pred: &Pred) -> Result<(), NoMemory> {
-    put(out, b" ")?;
-    show_pred(out, pred)?;
-    close(out)
-}
-
-#[cycle(preds)]
-fn one(out: &mut Vec<u8>, head: &str, line: Line, of: &Pred) -> Result<(), NoMemory> {
-    open(out, head, line)?;
-    put(out, b" ")?;
-    show_pred(out, of)
-}
-
-#[cycle(preds)]
-pub fn show_pred(out: &mut Vec<u8>, pred: &Pred) -> Result<(), NoMemory> {
-    let line = pred.line;
-    match &pred.node {
-        PredNode::True => show_leaf(out, b"true", line),
-        PredNode::False => show_leaf(out, b"false", line),
-        PredNode::Not(of) => {
-            one(out, "not", line, of.get())?;
-            close(out)
+fn write_parts(page: &mut Page, node: &PredNode) {
+    match node {
+        PredNode::Not(of) | PredNode::Old(of) => write_pred(page, of.get()),
+        PredNode::Let(_, _, of) => write_pred(page, of.get()),
+        PredNode::Forall(_, of) | PredNode::Exists(_, of) => write_pred(page, of.get()),
+        PredNode::And(left, right) | PredNode::Xor(left, right) | PredNode::Or(left, right) => {
+            write_pred(page, left.get());
+            write_pred(page, right.get());
         }
-        PredNode::And(left, right) => {
-            one(out, "and", line, left.get())?;
-            also(out, right.get())
-        }
-        PredNode::Xor(left, right) => {
-            one(out, "xor", line, left.get())?;
-            also(out, right.get())
-        }
-        PredNode::Or(left, right) => {
-            one(out, "or", line, left.get())?;
-            also(out, right.get())
-        }
-        PredNode::Implies(left, right) => {
-            one(out, "implies", line, left.get())?;
-            also(out, right.get())
-        }
-        PredNode::Iff(left, right) => {
-            one(out, "iff", line, left.get())?;
-            also(out, right.get())
+        PredNode::Implies(left, right) | PredNode::Iff(left, right) => {
+            write_pred(page, left.get());
+            write_pred(page, right.get());
         }
         PredNode::Cond(test, yes, no) => {
-            one(out, "?", line, test.get())?;
-            put(out, b" ")?;
-            show_pred(out, yes.get())?;
-            also(out, no.get())
+            write_pred(page, test.get());
+            write_pred(page, yes.get());
+            write_pred(page, no.get());
         }
-        PredNode::Let(name, value, of) => {
-            open(out, "let", line)?;
-            put_name(out, name.bytes())?;
-            put(out, b" ")?;
-            show_term(out, value.get())?;
-            also(out, of.get())
-        }
-        PredNode::Chain(terms, ops) => {
-            open(out, "chain", line)?;
-            show_chain(out, terms.as_slice(), ops.as_slice())?;
-            close(out)
-        }
-        PredNode::Forall(binders, of) => {
-            show_bound(out, "forall", line, binders.as_slice())?;
-            also(out, of.get())
-        }
-        PredNode::Exists(binders, of) => {
-            show_bound(out, "exists", line, binders.as_slice())?;
-            also(out, of.get())
-        }
-        PredNode::Valid(pointer) => {
-            open(out, "valid ", line)?;
-            show_term(out, pointer.get())?;
-            close(out)
-        }
-        PredNode::ValidRead(pointer) => {
-            open(out, "valid_read ", line)?;
-            show_term(out, pointer.get())?;
-            close(out)
-        }
-        PredNode::Separated(pointers) => {
-            open(out, "separated", line)?;
-            show_terms(out, pointers.as_slice())?;
-            close(out)
-        }
-        PredNode::Old(of) => {
-            one(out, "old", line, of.get())?;
-            close(out)
-        }
-        PredNode::Call(name, args) => {
-            open(out, "call", line)?;
-            put_name(out, name.bytes())?;
-            show_terms(out, args.as_slice())?;
-            close(out)
+        _ => {}
+    }
+}
+
+#[cycle(preds)]
+pub fn write_pred(page: &mut Page, pred: &Pred) {
+    match &pred.node {
+        PredNode::True => page.put_leaf(b"true", pred.line),
+        PredNode::False => page.put_leaf(b"false", pred.line),
+        node => {
+            page.open(pred_head(node), pred.line);
+            write_own(page, node);
+            write_parts(page, node);
+            page.close();
         }
     }
 }

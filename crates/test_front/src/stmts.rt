@@ -1,122 +1,86 @@
 // Statements, printed.
 
-use crate::annots::show_loop;
-use crate::exprs::{show_expr, show_some, show_vars};
-use crate::pieces::{close, open, put};
-use crate::preds::show_pred;
-use c_syntax::{Expr, Stmt, StmtNode};
-use wp_base::{Line, NoMemory};
+use crate::annots::write_loop;
+use crate::exprs::{write_expr, write_some, write_vars};
+use crate::preds::write_pred;
+use c_syntax::{Stmt, StmtNode};
+use test_lines::Page;
 
-fn valued(out: &mut Vec<u8>, head: &str, line: Line, value: &Expr) -> Result<(), NoMemory> {
-    open(out, head, line)?;
-    put(out, b" ")?;
-    show_expr(out, value)
-}
-
-fn also(out: &mut Vec<u8>, value: &Expr) -> Result<(), NoMemory> {
-    put(out, b" ")?;
-    show_expr(out, value)
-}
-
-#[cycle(stmts)]
-fn show_stmts(out: &mut Vec<u8>, stmts: &[Stmt]) -> Result<(), NoMemory> {
-    for stmt in stmts {
-        put(out, b" ")?;
-        show_stmt(out, stmt)?;
+fn stmt_head(node: &StmtNode) -> &'static str {
+    match node {
+        StmtNode::Empty => "empty",
+        StmtNode::Expr(_) => "expr",
+        StmtNode::Block(_) => "block",
+        StmtNode::Locals(_) => "locals",
+        StmtNode::If(_, _, _) => "if",
+        StmtNode::While(_, _, _) => "while",
+        StmtNode::Do(_, _, _) => "do",
+        StmtNode::For(_, _, _, _, _) => "for",
+        StmtNode::Switch(_, _) => "switch",
+        StmtNode::Case(_) => "case",
+        StmtNode::Default => "default",
+        StmtNode::Break => "break",
+        StmtNode::Continue => "continue",
+        StmtNode::Return(_) => "return",
+        StmtNode::Assert(_) => "assert",
     }
-    close(out)
+}
+
+// What stands in a statement before its first statement.
+fn write_before(page: &mut Page, node: &StmtNode) {
+    match node {
+        StmtNode::Expr(value) | StmtNode::Case(value) => write_expr(page, value),
+        StmtNode::If(value, _, _) => write_expr(page, value),
+        StmtNode::Switch(value, _) => write_expr(page, value),
+        StmtNode::Locals(vars) => write_vars(page, vars.as_slice()),
+        StmtNode::While(annot, test, _) => {
+            write_loop(page, annot);
+            write_expr(page, test);
+        }
+        StmtNode::Do(annot, _, _) => write_loop(page, annot),
+        StmtNode::For(annot, _, _, _, _) => write_loop(page, annot),
+        StmtNode::Return(value) => write_some(page, value),
+        StmtNode::Assert(pred) => write_pred(page, pred),
+        _ => {}
+    }
 }
 
 #[cycle(stmts)]
-fn and_last(out: &mut Vec<u8>, stmt: &Stmt) -> Result<(), NoMemory> {
-    put(out, b" ")?;
-    show_stmt(out, stmt)?;
-    close(out)
+pub fn write_stmts(page: &mut Page, stmts: &[Stmt]) {
+    for stmt in stmts {
+        write_stmt(page, stmt);
+    }
 }
 
 #[cycle(stmts)]
-pub fn show_stmt(out: &mut Vec<u8>, stmt: &Stmt) -> Result<(), NoMemory> {
-    let line = stmt.line;
-    match &stmt.node {
-        StmtNode::Empty => {
-            open(out, "empty", line)?;
-            close(out)
-        }
-        StmtNode::Expr(expr) => {
-            valued(out, "expr", line, expr)?;
-            close(out)
-        }
-        StmtNode::Block(body) => {
-            open(out, "block", line)?;
-            show_stmts(out, body.as_slice())
-        }
-        StmtNode::Locals(vars) => {
-            open(out, "locals", line)?;
-            show_vars(out, vars.as_slice())?;
-            close(out)
-        }
-        StmtNode::If(test, body, other) => {
-            valued(out, "if", line, test)?;
-            put(out, b" ")?;
-            show_stmt(out, body.get())?;
-            match other {
-                Some(other) => and_last(out, other.get()),
-                None => close(out),
+fn write_parts(page: &mut Page, node: &StmtNode) {
+    match node {
+        StmtNode::Block(body) | StmtNode::Switch(_, body) => write_stmts(page, body.as_slice()),
+        StmtNode::If(_, body, other) => {
+            write_stmt(page, body.get());
+            if let Some(other) = other {
+                write_stmt(page, other.get());
             }
         }
-        StmtNode::While(annot, test, body) => {
-            open(out, "while", line)?;
-            show_loop(out, annot)?;
-            also(out, test)?;
-            and_last(out, body.get())
+        StmtNode::While(_, _, body) => write_stmt(page, body.get()),
+        StmtNode::Do(_, body, test) => {
+            write_stmt(page, body.get());
+            write_expr(page, test);
         }
-        StmtNode::Do(annot, body, test) => {
-            open(out, "do", line)?;
-            show_loop(out, annot)?;
-            put(out, b" ")?;
-            show_stmt(out, body.get())?;
-            also(out, test)?;
-            close(out)
+        StmtNode::For(_, first, test, next, body) => {
+            write_stmt(page, first.get());
+            write_some(page, test);
+            write_some(page, next);
+            write_stmt(page, body.get());
         }
-        StmtNode::For(annot, first, test, next, body) => {
-            open(out, "for", line)?;
-            show_loop(out, annot)?;
-            put(out, b" ")?;
-            show_stmt(out, first.get())?;
-            show_some(out, test)?;
-            show_some(out, next)?;
-            and_last(out, body.get())
-        }
-        StmtNode::Switch(value, body) => {
-            valued(out, "switch", line, value)?;
-            show_stmts(out, body.as_slice())
-        }
-        StmtNode::Case(value) => {
-            valued(out, "case", line, value)?;
-            close(out)
-        }
-        StmtNode::Default => {
-            open(out, "default", line)?;
-            close(out)
-        }
-        StmtNode::Break => {
-            open(out, "break", line)?;
-            close(out)
-        }
-        StmtNode::Continue => {
-            open(out, "continue", line)?;
-            close(out)
-        }
-        StmtNode::Return(value) => {
-            open(out, "return", line)?;
-            show_some(out, value)?;
-            close(out)
-        }
-        StmtNode::Assert(pred) => {
-            open(out, "assert", line)?;
-            put(out, b" ")?;
-            show_pred(out, pred)?;
-            close(out)
-        }
+        _ => {}
     }
+}
+
+#[cycle(stmts)]
+pub fn write_stmt(page: &mut Page, stmt: &Stmt) {
+    page.open(stmt_head(&stmt.node), stmt.line);
+    write_before(page, &stmt.node);
+    write_parts(page, &stmt.node);
+    page.close();
 }

@@ -1,92 +1,96 @@
 // Terms, printed.
 
-use crate::exprs::{operator_name, prefix_name, show_char, show_leaf, show_number, show_type};
-use crate::pieces::{close, open, put, put_name};
+use crate::exprs::{write_char, write_number, write_type};
+use crate::names::{field_name, operator_name, prefix_name};
 use c_syntax::{Term, TermNode};
-use wp_base::{Line, NoMemory};
+use test_lines::Page;
+use wp_base::Line;
 
-#[cycle(terms)]
-fn one(out: &mut Vec<u8>, head: &str, line: Line, of: &Term) -> Result<(), NoMemory> {
-    open(out, head, line)?;
-    put(out, b" ")?;
-    show_term(out, of)
-}
-
-#[cycle(terms)]
-pub fn show_terms(out: &mut Vec<u8>, terms: &[Term]) -> Result<(), NoMemory> {
-    for term in terms {
-        put(out, b" ")?;
-        show_term(out, term)?;
+// The head of a term that has parts.
+fn term_head(node: &TermNode) -> &'static str {
+    match node {
+        TermNode::Number(_) | TermNode::Char(_) | TermNode::Name(_) => "",
+        TermNode::Result | TermNode::Null => "",
+        TermNode::Unary(op, _) => prefix_name(*op),
+        TermNode::Binary(op, _, _) => operator_name(*op),
+        TermNode::Cond(_, _, _) => "?",
+        TermNode::Call(_, _) => "call",
+        TermNode::Index(_, _) => "index",
+        TermNode::Field {
+            of: _,
+            name: _,
+            arrow,
+        } => field_name(*arrow),
+        TermNode::Cast(_, _) => "cast",
+        TermNode::Old(_) => "old",
+        TermNode::At(_, _) => "at",
+        TermNode::Range(_, _) => "range",
     }
-    Ok(())
+}
+
+// Whether the term has no parts; then it is written.
+fn is_leaf(page: &mut Page, node: &TermNode, line: Line) -> bool {
+    match node {
+        TermNode::Number(token) => write_number(page, token, line),
+        TermNode::Char(value) => write_char(page, *value, line),
+        TermNode::Name(name) => page.put_leaf(name.bytes(), line),
+        TermNode::Result => page.put_leaf(b"result", line),
+        TermNode::Null => page.put_leaf(b"null", line),
+        _ => return false,
+    }
+    true
 }
 
 #[cycle(terms)]
-pub fn show_term(out: &mut Vec<u8>, term: &Term) -> Result<(), NoMemory> {
-    let line = term.line;
-    match &term.node {
-        TermNode::Number(token) => show_number(out, token, line),
-        TermNode::Char(value) => show_char(out, *value, line),
-        TermNode::Name(name) => show_leaf(out, name.bytes(), line),
-        TermNode::Result => show_leaf(out, b"result", line),
-        TermNode::Null => show_leaf(out, b"null", line),
-        TermNode::Unary(op, of) => {
-            one(out, prefix_name(*op), line, of.get())?;
-            close(out)
+pub fn write_terms(page: &mut Page, terms: &[Term]) {
+    for term in terms {
+        write_term(page, term);
+    }
+}
+
+#[cycle(terms)]
+fn write_parts(page: &mut Page, node: &TermNode) {
+    match node {
+        TermNode::Number(_) | TermNode::Char(_) | TermNode::Name(_) => {}
+        TermNode::Result | TermNode::Null => {}
+        TermNode::Unary(_, of) | TermNode::Old(of) => write_term(page, of.get()),
+        TermNode::Binary(_, left, right) => {
+            write_term(page, left.get());
+            write_term(page, right.get());
         }
-        TermNode::Binary(op, left, right) => {
-            one(out, operator_name(*op), line, left.get())?;
-            put(out, b" ")?;
-            show_term(out, right.get())?;
-            close(out)
+        TermNode::Index(left, right) | TermNode::Range(left, right) => {
+            write_term(page, left.get());
+            write_term(page, right.get());
         }
         TermNode::Cond(test, yes, no) => {
-            one(out, "?", line, test.get())?;
-            put(out, b" ")?;
-            show_term(out, yes.get())?;
-            put(out, b" ")?;
-            show_term(out, no.get())?;
-            close(out)
+            write_term(page, test.get());
+            write_term(page, yes.get());
+            write_term(page, no.get());
         }
         TermNode::Call(name, args) => {
-            open(out, "call", line)?;
-            put_name(out, name.bytes())?;
-            show_terms(out, args.as_slice())?;
-            close(out)
+            page.put_name(name.bytes());
+            write_terms(page, args.as_slice());
         }
-        TermNode::Index(of, at) => {
-            one(out, "index", line, of.get())?;
-            put(out, b" ")?;
-            show_term(out, at.get())?;
-            close(out)
+        TermNode::Field { of, name, arrow: _ } => {
+            write_term(page, of.get());
+            page.put_name(name.bytes());
         }
-        TermNode::Field { of, name, arrow } => {
-            one(out, if *arrow { "->" } else { "." }, line, of.get())?;
-            put_name(out, name.bytes())?;
-            close(out)
+        TermNode::At(of, name) => {
+            write_term(page, of.get());
+            page.put_name(name.bytes());
         }
         TermNode::Cast(to, of) => {
-            open(out, "cast", line)?;
-            put(out, b" ")?;
-            show_type(out, to)?;
-            put(out, b" ")?;
-            show_term(out, of.get())?;
-            close(out)
+            write_type(page, to);
+            write_term(page, of.get());
         }
-        TermNode::Old(of) => {
-            one(out, "old", line, of.get())?;
-            close(out)
-        }
-        TermNode::At(of, label) => {
-            one(out, "at", line, of.get())?;
-            put_name(out, label.bytes())?;
-            close(out)
-        }
-        TermNode::Range(low, high) => {
-            one(out, "range", line, low.get())?;
-            put(out, b" ")?;
-            show_term(out, high.get())?;
-            close(out)
-        }
+    }
+}
+
+#[cycle(terms)]
+pub fn write_term(page: &mut Page, term: &Term) {
+    if !is_leaf(page, &term.node, term.line) {
+        page.open(term_head(&term.node), term.line);
+        write_parts(page, &term.node);
+        page.close();
     }
 }

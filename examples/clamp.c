@@ -1,0 +1,7 @@
+int clamp(int x, int lo, int hi) {
+  int r;
+  if (x < lo) { r = lo; }
+  else if (hi < x) { r = hi; }
+  else { r = x; }
+  return r;
+}

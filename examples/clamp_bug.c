@@ -1,0 +1,6 @@
+int clamp(int x, int lo, int hi) {
+  int r;
+  if (x < lo) { r = lo; }
+  else if (hi < x) { r = hi; }
+  return r;
+}

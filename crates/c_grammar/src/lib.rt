@@ -1,12 +1,14 @@
-//! Floor 1, text: the grammar of C and of its annotations: which tokens spell which tree. Its code is what the parsers above it share:
-//! it reads single tokens, knows which punctuators are which operators, and has the limits.
+//! Floor 1, text: the grammar of C and of its annotations: which tokens spell which tree. Its code is what the parsers above it share: it reads single
+//! tokens, knows which punctuators are which operators, puts an `if` together, and has the limits.
 #![tactic(auto)]
 
+mod choices;
 mod fault;
 mod limits;
 mod operators;
 mod tokens;
 
+pub use choices::if_of;
 pub use fault::{Fault, Read};
 pub use limits::{DEEPEST, MOST_FUNCTIONS, MOST_PARAMS, MOST_STMTS, MOST_WITHIN};
 pub use operators::{LOOSEST, SHIFTS, binop_of, level_of, unop_of};

@@ -2,7 +2,6 @@
 #![tactic(auto, using(c_syntax::proofs::Equations::stmt_laws))]
 
 ghost use Rattle.std.specs.Prelude.{◌≡◌, [], map, IfOk};
-ghost use Rattle.std.specs.Option.{option_map};
 ghost use Rattle.c_grammar.specs.Annots.{loop_of};
 ghost use Rattle.c_syntax.specs.Stmt as tree;
 ghost use Rattle.c_syntax.specs.View.{view_expr, view_loop, view_stmt};
@@ -44,21 +43,6 @@ pub fn switch_of(line: Line, value: Expr, body: List<Stmt>) -> Stmt
 {
     let node = StmtNode::Switch(value, body);
     Stmt { node, line }
-}
-
-/// An `if`, with what comes behind `else`.
-pub fn if_of(
-    alloc: Global,
-    line: Line,
-    test: Expr,
-    first: Stmt,
-    second: Option<Boxed<Stmt>>,
-) -> Result<Stmt, NoMemory>
-    ensures { IfOk result (λ made. view_stmt made ≡ tree.if_of line (view_expr test) (view_stmt first) (option_map view_stmt second)) }
-{
-    let first = Boxed::new(alloc, first)?;
-    let node = StmtNode::If(test, first, second);
-    Ok(Stmt { node, line })
 }
 
 /// A `while`.

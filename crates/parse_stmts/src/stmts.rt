@@ -5,12 +5,11 @@ ghost use Rattle.c_syntax.specs.View.{view_loop};
 ghost use Rattle.parse_stmts.specs.Read as spec;
 ghost use Rattle.parse_stmts.specs.Views.{other_with, stmt_with, stmts_with};
 
-use c_grammar::{Fault, Read, expect, first_line, keyword_at, punct_at, word_at};
+use c_grammar::{Fault, Read, expect, first_line, if_of, keyword_at, punct_at, word_at};
 use c_syntax::{LoopAnnot, Punct, Stmt, Token, Word};
 use parse_leaf_stmts::{
     Around, Form, assertion_at, block_of, case_at, default_at, do_end_at, do_of, for_of, form_of,
-    head_at, if_of, is_switch, locals_at, loop_annot_at, no_annot, plain_at, switch_of, test_at,
-    while_of,
+    head_at, is_switch, locals_at, loop_annot_at, no_annot, plain_at, switch_of, test_at, while_of,
 };
 use parse_types::starts_type;
 use std::alloc::Global;

@@ -7,14 +7,27 @@ use test_lines::Page;
 use wp_base::{List, NoMemory, Str};
 
 // A goal of which nothing is known is an implication all the same.
+fn is_implication(alloc: Global, goal: &Goal) -> Result<bool, NoMemory> {
+    let formula = goal.formula(alloc)?;
+    Ok(matches!(formula, Formula::Imp(_, _)) && goal.check.is_true())
+}
+
+fn is_copy_implication(alloc: Global, goal: &Goal) -> Result<bool, NoMemory> {
+    let copy = goal.copy(alloc)?;
+    is_implication(alloc, &copy)
+}
+
 fn is_goal_copied(alloc: Global) -> Result<bool, NoMemory> {
     let goal = Goal {
         known: List::new(alloc),
         check: Formula::True,
     };
-    let goal = goal.copy(alloc)?;
-    let formula = goal.formula(alloc)?;
-    Ok(matches!(formula, Formula::Imp(_, _)) && goal.check.is_true())
+    is_copy_implication(alloc, &goal)
+}
+
+fn has_one_literal(alloc: Global, branch: &Branch) -> Result<bool, NoMemory> {
+    let copy = branch.copy(alloc)?;
+    Ok(copy.literals.len() == 1 && copy.waiting.len() == 0)
 }
 
 fn is_branch_copied(alloc: Global) -> Result<bool, NoMemory> {
@@ -24,8 +37,7 @@ fn is_branch_copied(alloc: Global) -> Result<bool, NoMemory> {
         literals,
         waiting: List::new(alloc),
     };
-    let branch = branch.copy(alloc)?;
-    Ok(branch.literals.len() == 1 && branch.waiting.len() == 0)
+    has_one_literal(alloc, &branch)
 }
 
 fn setting_of(alloc: Global) -> Result<Setting, NoMemory> {

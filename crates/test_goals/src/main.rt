@@ -9,21 +9,24 @@ mod sizes;
 mod terms;
 
 use crate::copies::tell_copies;
-use crate::formulas::formulas_in_order;
 use crate::orders::{tell_formulas, tell_terms};
 use crate::sizes::{tell_names, tell_sizes, tell_stores};
-use crate::terms::terms_in_order;
 use goal_text::{GoalText, read_goal, write_goal};
+use qed_terms::Goal;
 use std::alloc::Global;
-use std::io::{ErrorKind, Write};
-use std::{env, fs, io};
-use test_lines::Page;
+use std::io;
+use test_lines::{Page, given_text, print_page};
 use wp_base::NoMemory;
+
+fn has_text(alloc: Global, goal: &Goal, text: &[u8]) -> Result<bool, NoMemory> {
+    let written = write_goal(alloc, goal)?;
+    Ok(written.bytes() == text)
+}
 
 // Whether the text is read as a goal that has this text.
 fn is_goal_text(alloc: Global, text: &[u8]) -> Result<bool, NoMemory> {
     match read_goal(alloc, text) {
-        Ok(goal) => Ok(write_goal(alloc, &goal)?.bytes() == text),
+        Ok(goal) => has_text(alloc, &goal, text),
         Err(GoalText::NotAGoal) => Ok(false),
         Err(GoalText::NoMemory) => Err(NoMemory),
     }
@@ -41,27 +44,24 @@ fn tell_goals(alloc: Global, page: &mut Page, texts: &str) {
 }
 
 fn tell_all(alloc: Global, page: &mut Page) -> Result<(), NoMemory> {
-    tell_terms(alloc, page, terms_in_order(alloc)?.as_slice())?;
-    tell_formulas(alloc, page, formulas_in_order(alloc)?.as_slice())?;
+    tell_terms(alloc, page)?;
+    tell_formulas(alloc, page)?;
     tell_sizes(alloc, page)?;
     tell_names(alloc, page)?;
     tell_stores(alloc, page)?;
     tell_copies(alloc, page)
 }
 
-fn main(rt: HostRuntime) -> io::Result<()> {
-    let alloc = rt.alloc();
-    let Some(name) = env::args(&rt)?.skip(1).next() else {
-        return Err(ErrorKind::InvalidInput.into());
-    };
-    let texts = fs::read_to_string(&rt, name.as_str())?;
+fn page_of(alloc: Global, texts: &str) -> Page {
     let mut page = Page::new(alloc);
-    tell_goals(alloc, &mut page, texts.as_str());
+    tell_goals(alloc, &mut page, texts);
     if tell_all(alloc, &mut page).is_err() {
         page.lack_memory();
     }
-    match page.into_text() {
-        Ok(text) => io::writer(&rt).write_all(text.as_slice()),
-        Err(NoMemory) => Err(ErrorKind::OutOfMemory.into()),
-    }
+    page
+}
+
+fn main(rt: HostRuntime) -> io::Result<()> {
+    let texts = given_text(&rt)?;
+    print_page(&rt, page_of(rt.alloc(), texts.as_str()))
 }

@@ -1,5 +1,7 @@
 // Orders of terms and formulas, told for each with all that are above it.
 
+use crate::formulas::formulas_in_order;
+use crate::terms::terms_in_order;
 use qed_terms::{Formula, Term};
 use std::alloc::Global;
 use std::cmp::Ordering;
@@ -15,13 +17,16 @@ fn is_term_below(low: &Term, above: &[Term]) -> bool {
 }
 
 fn is_term_copied(alloc: Global, term: &Term) -> Result<bool, NoMemory> {
-    Ok(term.copy(alloc)?.is_same(term))
+    let copy = term.copy(alloc)?;
+    Ok(copy.is_same(term))
 }
 
-/// For each term whether it is below all that come after it, and the same as its copy.
-pub fn tell_terms(alloc: Global, page: &mut Page, terms: &[Term]) -> Result<(), NoMemory> {
-    let mut rest = terms;
-    while let Some((first, above)) = rest.split_first() {
+fn tell_each_term(alloc: Global, page: &mut Page, all: &[Term]) -> Result<(), NoMemory> {
+    let mut rest = all;
+    for _ in 0..all.len() {
+        let Some((first, above)) = rest.split_first() else {
+            break;
+        };
         page.put("term, above it ");
         page.put_number(above.len());
         tell_whether(page, is_term_below(first, above));
@@ -32,18 +37,27 @@ pub fn tell_terms(alloc: Global, page: &mut Page, terms: &[Term]) -> Result<(), 
     Ok(())
 }
 
+/// For each term whether it is below all that come after it, and the same as its copy.
+pub fn tell_terms(alloc: Global, page: &mut Page) -> Result<(), NoMemory> {
+    let all = terms_in_order(alloc)?;
+    tell_each_term(alloc, page, all.as_slice())
+}
+
 fn is_formula_below(low: &Formula, above: &[Formula]) -> bool {
     above.iter().all(|high| low.compare(high) == Ordering::Less && !high.is_same(low))
 }
 
 fn is_formula_copied(alloc: Global, formula: &Formula) -> Result<bool, NoMemory> {
-    Ok(formula.copy(alloc)?.is_same(formula))
+    let copy = formula.copy(alloc)?;
+    Ok(copy.is_same(formula))
 }
 
-/// For each formula whether it is below all that come after it, and the same as its copy.
-pub fn tell_formulas(alloc: Global, page: &mut Page, formulas: &[Formula]) -> Result<(), NoMemory> {
-    let mut rest = formulas;
-    while let Some((first, above)) = rest.split_first() {
+fn tell_each_formula(alloc: Global, page: &mut Page, all: &[Formula]) -> Result<(), NoMemory> {
+    let mut rest = all;
+    for _ in 0..all.len() {
+        let Some((first, above)) = rest.split_first() else {
+            break;
+        };
         page.put("formula, above it ");
         page.put_number(above.len());
         tell_whether(page, is_formula_below(first, above));
@@ -52,4 +66,10 @@ pub fn tell_formulas(alloc: Global, page: &mut Page, formulas: &[Formula]) -> Re
         rest = above;
     }
     Ok(())
+}
+
+/// For each formula whether it is below all that come after it, and the same as its copy.
+pub fn tell_formulas(alloc: Global, page: &mut Page) -> Result<(), NoMemory> {
+    let all = formulas_in_order(alloc)?;
+    tell_each_formula(alloc, page, all.as_slice())
 }

@@ -4,6 +4,8 @@
 
 mod lines;
 mod page;
+mod program;
 
 pub use lines::put_text;
 pub use page::Page;
+pub use program::{given_text, print_page};

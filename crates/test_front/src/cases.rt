@@ -9,48 +9,48 @@ use wp_base::{NoMemory, Str};
 pub struct Heading<'a> {
     /// The name of the call.
     pub reader: &'a str,
+    /// A typedef name, or the name that is looked for; empty where there is none.
+    pub word: &'a str,
     /// How many forms may open, one in another.
     pub room: u32,
     /// The place of the first token that is read.
     pub place: u32,
-    /// A typedef name, or the name that is looked for.
-    pub word: Option<&'a str>,
+}
+
+// The first word of a line, and those behind it.
+fn first_word(line: &str) -> (&str, &str) {
+    line.split_once(" ").unwrap_or((line, ""))
+}
+
+fn number_of(word: &str) -> u32 {
+    word.parse::<u32>().unwrap_or(0)
 }
 
 impl<'a> Heading<'a> {
-    /// No call, which the texts above the first heading ask for.
-    pub fn none() -> Heading<'a> {
-        Heading {
-            reader: "",
-            room: 0,
-            place: 0,
-            word: None,
-        }
-    }
-
-    /// The heading of a line: the call, then a typedef name, the room and the place, where they are given.
+    /// The heading of a line: the call, then a name, the room and the place, where they are given.
     pub fn of(line: &'a str) -> Heading<'a> {
-        let mut heading = Heading::none();
-        let mut numbers: u32 = 0;
-        for word in line.split_whitespace() {
-            match word.parse::<u32>() {
-                Ok(number) if numbers == 0 => {
-                    heading.room = number;
-                    numbers = 1;
-                }
-                Ok(number) => heading.place = number,
-                Err(_) if heading.reader.is_empty() => heading.reader = word,
-                Err(_) => heading.word = Some(word),
-            }
+        let (reader, rest) = first_word(line);
+        let (name, behind) = first_word(rest);
+        let is_number = name.parse::<u32>().is_ok();
+        let (word, numbers) = if is_number {
+            ("", rest)
+        } else {
+            (name, behind)
+        };
+        let (room, place) = first_word(numbers);
+        Heading {
+            reader,
+            word,
+            room: number_of(room),
+            place: number_of(place),
         }
-        heading
     }
 
     /// The typedef names.
     pub fn types(&self, alloc: Global) -> Result<Vec<Str>, NoMemory> {
         let mut types = Vec::new(alloc);
-        if let Some(word) = self.word {
-            types.push(Str::from_bytes(alloc, word.as_bytes())?)?;
+        if !self.word.is_empty() {
+            types.push(Str::from_bytes(alloc, self.word.as_bytes())?)?;
         }
         Ok(types)
     }

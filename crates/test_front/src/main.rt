@@ -24,9 +24,8 @@ use crate::told::tell_stop;
 use c_lexer::lex;
 use c_syntax::{Token, Tokens};
 use std::alloc::Global;
-use std::io::{ErrorKind, Write};
-use std::{env, fs, io};
-use test_lines::Page;
+use std::io;
+use test_lines::{Page, given_text, print_page};
 use wp_base::{List, NoMemory};
 
 /// The greatest length of a text.
@@ -89,33 +88,26 @@ fn answer(
     }
 }
 
-fn answer_cases(alloc: Global, page: &mut Page, cases: &str) {
-    let mut heading = Heading::none();
+fn page_of(alloc: Global, cases: &str) -> Page {
+    let mut page = Page::new(alloc);
+    let mut heading = Heading::of("");
     for line in cases.lines() {
         page.put(line);
         match line.strip_prefix("= ") {
             Some(words) => heading = Heading::of(words),
             None => {
                 page.put("  =>");
-                if answer(alloc, page, &heading, line).is_err() {
+                if answer(alloc, &mut page, &heading, line).is_err() {
                     page.lack_memory();
                 }
             }
         }
         page.put("\n");
     }
+    page
 }
 
 fn main(rt: HostRuntime) -> io::Result<()> {
-    let alloc = rt.alloc();
-    let Some(name) = env::args(&rt)?.skip(1).next() else {
-        return Err(ErrorKind::InvalidInput.into());
-    };
-    let cases = fs::read_to_string(&rt, name.as_str())?;
-    let mut page = Page::new(alloc);
-    answer_cases(alloc, &mut page, cases.as_str());
-    match page.into_text() {
-        Ok(text) => io::writer(&rt).write_all(text.as_slice()),
-        Err(NoMemory) => Err(ErrorKind::OutOfMemory.into()),
-    }
+    let cases = given_text(&rt)?;
+    print_page(&rt, page_of(rt.alloc(), cases.as_str()))
 }

@@ -51,38 +51,46 @@ fn answer(
     }
 }
 
-fn answer_cases(rt: HostRuntime, page: &mut Page, cases: &str) {
-    let mut setting = Setting::none();
+fn page_of(rt: HostRuntime, cases: &str) -> Page {
+    let mut page = Page::new(rt.alloc());
+    let mut setting = Setting::of("");
     for line in cases.lines() {
         page.put(line);
         match line.strip_prefix("= ") {
             Some(words) => setting = Setting::of(words),
             None => {
                 page.put("  =>");
-                if answer(rt, page, &setting, line).is_err() {
+                if answer(rt, &mut page, &setting, line).is_err() {
                     page.lack_memory();
                 }
             }
         }
         page.put("\n");
     }
+    page
+}
+
+fn first_word(rt: HostRuntime) -> Option<Str> {
+    let word = env::args(&rt).ok()?.skip(1).next()?;
+    Str::from_bytes(rt.alloc(), word.as_bytes()).ok()
 }
 
 // The bytes of the file that the first word names.
 fn cases_of(rt: HostRuntime) -> Option<Vec<u8>> {
-    let alloc = rt.alloc();
-    let name = env::args(&rt).ok()?.skip(1).next()?;
-    let name = Str::from_bytes(alloc, name.as_bytes()).ok()?;
+    let name = first_word(rt)?;
     let mut files = RealFiles::new(rt);
-    files.open(&name).ok()?;
-    read_all(alloc, &mut files, MOST_BYTES).ok()
+    match files.open(&name) {
+        Ok(()) => read_all(rt.alloc(), &mut files, MOST_BYTES).ok(),
+        Err(_) => None,
+    }
 }
 
 fn answers_of(rt: HostRuntime) -> Option<Vec<u8>> {
     let cases = cases_of(rt)?;
-    let mut page = Page::new(rt.alloc());
-    answer_cases(rt, &mut page, str::from_utf8(cases.as_slice()).ok()?);
-    page.into_text().ok()
+    match str::from_utf8(cases.as_slice()) {
+        Ok(cases) => page_of(rt, cases).into_text().ok(),
+        Err(_) => None,
+    }
 }
 
 // Writes the page, and then a line of one byte, which one call takes.

@@ -24,54 +24,34 @@ pub struct Setting<'a> {
     pub stop: u64,
 }
 
+// What stands behind this key, up to a space; else this.
+fn value_or<'a>(settings: &'a str, key: &str, other: &'a str) -> &'a str {
+    match settings.split_once(key) {
+        Some((_, rest)) => rest.split_once(" ").unwrap_or((rest, "")).0,
+        None => other,
+    }
+}
+
+fn number_or(settings: &str, key: &str, other: u32) -> u32 {
+    value_or(settings, key, "").parse::<u32>().unwrap_or(other)
+}
+
 impl<'a> Setting<'a> {
-    pub fn none() -> Setting<'a> {
-        Setting {
-            call: "",
-            words: "",
-            file: "p.c",
-            then: "",
-            piece: 4096,
-            fail: 0,
-            limit: 1000,
-            room: 4096,
-            by: 64,
-            stop: 0,
-        }
-    }
-
-    fn set(&mut self, key: &str, value: &'a str) {
-        let number = value.parse::<u32>().unwrap_or(0);
-        match key {
-            "file" => self.file = value,
-            "then" => self.then = value,
-            "piece" => self.piece = number as usize,
-            "fail" => self.fail = number as u64,
-            "limit" => self.limit = number as usize,
-            "room" => self.room = number as usize,
-            "by" => self.by = number as usize,
-            "stop" => self.stop = number as u64,
-            _ => {}
-        }
-    }
-
     /// The heading of a line: the call, keys and their values, and behind " :" the words of a run.
     pub fn of(line: &'a str) -> Setting<'a> {
-        let mut setting = Setting::none();
         let (settings, words) = line.split_once(" :").unwrap_or((line, ""));
-        setting.words = words;
-        let mut key = "";
-        for word in settings.split_whitespace() {
-            if setting.call.is_empty() {
-                setting.call = word;
-            } else if key.is_empty() {
-                key = word;
-            } else {
-                setting.set(key, word);
-                key = "";
-            }
+        Setting {
+            call: settings.split_once(" ").unwrap_or((settings, "")).0,
+            words,
+            file: value_or(settings, " file ", "p.c"),
+            then: value_or(settings, " then ", ""),
+            piece: number_or(settings, " piece ", 4096) as usize,
+            fail: number_or(settings, " fail ", 0) as u64,
+            limit: number_or(settings, " limit ", 1000) as usize,
+            room: number_or(settings, " room ", 4096) as usize,
+            by: number_or(settings, " by ", 64) as usize,
+            stop: number_or(settings, " stop ", 0) as u64,
         }
-        setting
     }
 }
 

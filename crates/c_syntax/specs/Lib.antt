@@ -5,4 +5,10 @@ pub mod Contract
 pub mod Stmt
 pub mod Decl
 pub mod View
+pub mod TypeShapes
+pub mod ExprShapes
+pub mod TermShapes
+pub mod PredShapes
 pub mod Layers
+pub mod Copies
+pub mod Lines

@@ -1,12 +1,12 @@
 // Copies of the trees. Each equals its source.
 
 mod contracts;
-mod decls;
+pub(crate) mod decls;
 mod exprs;
-mod parts;
+pub(crate) mod parts;
 mod preds;
 mod stmts;
-mod terms;
+pub(crate) mod terms;
 mod tokens;
 mod types;
 

@@ -5,6 +5,7 @@ mod annot;
 mod copies;
 mod decl;
 mod expr;
+mod shapes;
 mod stmt;
 mod token;
 
@@ -15,5 +16,9 @@ pub use annot::{
 pub use copies::{copy_terms, copy_vars};
 pub use decl::{Decl, EnumDecl, Function, LogicBody, LogicDecl, Program, StructDecl, VarDecl};
 pub use expr::{BinOp, CType, Expr, ExprNode, UnOp};
+pub use shapes::{
+    ExprLeaf, ExprOne, ExprShape, ExprTwo, PredLeaf, PredOne, PredShape, PredTwo, TermLeaf,
+    TermOne, TermShape, TermTwo, TypeLeaf, TypeShape,
+};
 pub use stmt::{Stmt, StmtNode};
 pub use token::{Base, Punct, Suffix, Token, TokenKind, Tokens, Word};

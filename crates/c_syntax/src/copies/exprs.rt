@@ -3,8 +3,9 @@ ghost use Rattle.std.specs.Prelude.{◌≡◌, IfOk};
 
 use crate::copies::parts::Copies;
 use crate::expr::{Expr, ExprNode};
+use crate::shapes::ExprShape;
 use std::alloc::Global;
-use wp_base::{Boxed, List, NoMemory};
+use wp_base::{List, NoMemory};
 
 impl Expr {
     /// A copy, which equals its source.
@@ -26,59 +27,26 @@ impl ExprNode {
     pub fn copy(&self, alloc: Global) -> Result<ExprNode, NoMemory>
         ensures { IfOk result (λ copy. copy ≡ self.now) }
     {
-        match self {
-            ExprNode::Number(token) => Ok(ExprNode::Number(token.copy(alloc)?)),
-            ExprNode::Char(value) => Ok(ExprNode::Char(*value)),
-            ExprNode::Name(name) => Ok(ExprNode::Name(name.copy(alloc)?)),
-            ExprNode::Unary(op, of) => Ok(ExprNode::Unary(*op, copy_boxed(of, alloc)?)),
-            ExprNode::Binary(op, left, right) => {
-                let left = copy_boxed(left, alloc)?;
-                Ok(ExprNode::Binary(*op, left, copy_boxed(right, alloc)?))
-            }
-            ExprNode::Cond(test, left, right) => {
-                let test = copy_boxed(test, alloc)?;
-                let left = copy_boxed(left, alloc)?;
-                Ok(ExprNode::Cond(test, left, copy_boxed(right, alloc)?))
-            }
-            ExprNode::Assign(op, place, value) => {
-                let place = copy_boxed(place, alloc)?;
-                Ok(ExprNode::Assign(*op, place, copy_boxed(value, alloc)?))
-            }
-            ExprNode::Step { up, prefix, of } => Ok(ExprNode::Step {
-                up: *up,
-                prefix: *prefix,
-                of: copy_boxed(of, alloc)?,
-            }),
-            ExprNode::Call(name, args) => {
-                let name = name.copy(alloc)?;
-                Ok(ExprNode::Call(name, copy_exprs(args, alloc)?))
-            }
-            ExprNode::Index(of, at) => {
-                let of = copy_boxed(of, alloc)?;
-                Ok(ExprNode::Index(of, copy_boxed(at, alloc)?))
-            }
-            ExprNode::Field { of, name, arrow } => {
-                let of = copy_boxed(of, alloc)?;
-                Ok(ExprNode::Field {
-                    of,
-                    name: name.copy(alloc)?,
-                    arrow: *arrow,
-                })
-            }
-            ExprNode::Cast(ty, of) => {
-                let ty = ty.copy(alloc)?;
-                Ok(ExprNode::Cast(ty, copy_boxed(of, alloc)?))
-            }
-            ExprNode::SizeOf(ty) => Ok(ExprNode::SizeOf(ty.copy(alloc)?)),
+        match self.look() {
+            ExprShape::Leaf(leaf) => ExprNode::leaf(alloc, leaf),
+            ExprShape::One(head, of) => ExprNode::one(alloc, head, of.get().copy(alloc)),
+            ExprShape::Two(head, left, right) => ExprNode::two(
+                alloc,
+                head,
+                left.get().copy(alloc),
+                right.get().copy(alloc),
+            ),
+            ExprShape::Cond(test, left, right) => ExprNode::cond(
+                alloc,
+                test.get().copy(alloc),
+                left.get().copy(alloc),
+                right.get().copy(alloc),
+            ),
+            ExprShape::Call(name, args) => ExprNode::call(alloc, name, copy_exprs(args, alloc)),
+            ExprShape::Cast(ty, of) => ExprNode::cast(alloc, ty.copy(alloc), of.get().copy(alloc)),
+            ExprShape::SizeOf(ty) => ExprNode::size_of(ty.copy(alloc)),
         }
     }
-}
-
-#[cycle(expr_copy)]
-fn copy_boxed(expr: &Boxed<Expr>, alloc: Global) -> Result<Boxed<Expr>, NoMemory>
-    ensures { IfOk result (λ copy. copy ≡ expr.now) }
-{
-    Boxed::new(alloc, expr.get().copy(alloc)?)
 }
 
 #[cycle(expr_copy)]

@@ -52,3 +52,14 @@ pub(crate) fn boxed<A: Drop>(alloc: Global, of: Result<A, NoMemory>) -> Result<B
 {
     Boxed::new(alloc, of?)
 }
+
+// Both in boxes, where neither lacked memory.
+pub(crate) fn both_boxed<A: Drop, B: Drop>(
+    alloc: Global,
+    first: Result<A, NoMemory>,
+    second: Result<B, NoMemory>,
+) -> Result<(Boxed<A>, Boxed<B>), NoMemory>
+    ensures { IfOk result (λ two. (first ≡ Ok two.0) × (second ≡ Ok two.1)) }
+{
+    both(boxed(alloc, first), boxed(alloc, second))
+}

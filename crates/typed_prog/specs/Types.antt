@@ -1,5 +1,7 @@
 -- Types: what they are, and what is made of them (C11 6.2.5).
-use Rattle.std.specs.Prelude.{ℕ, Bool, true, false, List, [], ◌∷◌, Option, Some, None}
+use Rattle.std.specs.Prelude.{◌≡◌, ◌↔◌, ℕ, Bool, true, false, ◌&&◌, ◌==◌, List, [], ◌∷◌, Option, Some, None}
+use denote.Enum.Bare.{sameb}
+use Rattle.wp_base.specs.contracts.kinds.Kind.{the_type}
 use Rattle.wp_base.specs.declared.kinds.Kind.{Kind}
 use Rattle.typed_prog.specs.declared.types.Base.{Base}
 use Rattle.typed_prog.specs.declared.types.Base.TheVariants as base
@@ -59,3 +61,41 @@ is_void_by _ _ _ = false
 
 abbrev pub is_void : CoreType → Bool
 is_void type = is_void_by type.base type.stars type.count
+
+-- the same pointer type, but what it points to is constant
+abbrev pub with_const_by : Base → List Bool → Option ℕ → CoreType
+with_const_by root [] count = type_with root [] count
+with_const_by root (is_const ∷ stars) count = type_with root (true ∷ stars) count
+
+abbrev pub with_const_target : CoreType → CoreType
+with_const_target type = with_const_by type.base type.stars type.count
+
+-- ---- whether two types are the same
+
+abbrev pub same_base : Base → Base → Bool
+same_base base.Void base.Void = true
+same_base (base.Of k) (base.Of l) = sameb the_type k l
+same_base (base.Struct m) (base.Struct n) = m == n
+same_base _ _ = false
+
+abbrev pub same_star : Bool → Bool → Bool
+same_star true true = true
+same_star false false = true
+same_star _ _ = false
+
+abbrev pub same_stars : List Bool → List Bool → Bool
+same_stars [] [] = true
+same_stars (c ∷ cs) (d ∷ ds) = same_star c d && same_stars cs ds
+same_stars _ _ = false
+
+abbrev pub same_count : Option ℕ → Option ℕ → Bool
+same_count None None = true
+same_count (Some m) (Some n) = m == n
+same_count _ _ = false
+
+abbrev pub same_type : CoreType → CoreType → Bool
+same_type a b = same_base a.base b.base && same_stars a.stars b.stars && same_count a.count b.count
+
+-- the test tells exactly whether they are equal
+abbrev pub TypesAreCompared : Type 0
+TypesAreCompared = (a b : CoreType) → (same_type a b ≡ true) ↔ (a ≡ b)

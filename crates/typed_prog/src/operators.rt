@@ -41,11 +41,11 @@ pub enum Connective {
     Or,
 }
 
-/// Where the way to an object begins: at a variable, or where the value of the first operand points.
+/// Where the way to an object begins: at a variable, or where the value of the operand with this number points.
 #[derive(Clone, Copy)]
 pub enum Root {
     Variable(Variable),
-    Pointed,
+    Pointed(u32),
 }
 
 /// A step on the way to an object, inside the object reached so far.
@@ -56,8 +56,8 @@ pub enum Step {
         number: u32,
         offset: u32,
     },
-    /// An element of an array of `count` elements of `size` cells each. Its index is the operand with this number, from 0, and
-    /// the line is that of the `[`.
+    /// An element of an array of `count` elements of `size` cells each. Its index is the operand with this number, and the line
+    /// is that of the `[`.
     Element {
         operand: u32,
         size: u32,
@@ -71,7 +71,8 @@ pub enum Step {
     },
 }
 
-/// The way to an object, beside the operands: where it begins, its steps, and the line of the whole.
+/// The way to an object, beside the operands: where it begins, its steps, and the line of the last one or of the name. Operands stand
+/// in the order in which they are spelled, and have numbers from 0.
 #[derive(Drop)]
 pub struct Path {
     pub root: Root,

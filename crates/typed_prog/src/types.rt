@@ -1,5 +1,5 @@
 // Types of objects and values (C11 6.2.5).
-ghost use Rattle.std.specs.Prelude.{◌≡◌, ◌↔◌, IsTrue, IfOk};
+ghost use Rattle.std.specs.Prelude.{◌≡◌, IfOk};
 ghost use Rattle.typed_prog.specs.Types as spec;
 
 use std::alloc::Global;
@@ -25,7 +25,7 @@ pub struct CoreType {
 impl Base {
     /// Whether both are the same root.
     pub fn is_same(self, other: Base) -> bool
-        ensures { IsTrue result ↔ (self ≡ other) }
+        ensures { result ≡ spec.same_base self other }
     {
         match self {
             Base::Void => match other {
@@ -175,16 +175,35 @@ impl CoreType {
 
     /// Whether both are the same type.
     pub fn is_same(&self, other: &CoreType) -> bool
-        ensures { IsTrue result ↔ (self.now ≡ other.now) }
+        ensures { result ≡ spec.same_type self.now other.now }
     {
         self.base.is_same(other.base)
             && are_same(self.stars.as_slice(), other.stars.as_slice())
             && is_same_count(self.count, other.count)
     }
+
+    /// The same pointer type, but what it points to is constant.
+    pub fn with_const_target(&self, alloc: Global) -> Result<CoreType, NoMemory>
+        ensures { IfOk result (λ pointer. pointer ≡ spec.with_const_target self.now) }
+    {
+        let stars = match self.stars.as_slice().split_first() {
+            None => Vec::new(alloc),
+            Some((_, rest)) => {
+                let mut stars = Vec::from_array(alloc, [true])?;
+                stars.extend_from_slice(rest)?;
+                stars
+            }
+        };
+        Ok(CoreType {
+            base: self.base,
+            stars: List::from_vec(stars),
+            count: self.count,
+        })
+    }
 }
 
 fn is_same_count(count: Option<u32>, other: Option<u32>) -> bool
-    ensures { IsTrue result ↔ (count ≡ other) }
+    ensures { result ≡ spec.same_count count other }
 {
     match count {
         None => other.is_none(),
@@ -197,15 +216,19 @@ fn is_same_count(count: Option<u32>, other: Option<u32>) -> bool
 
 // Whether both have the same stars.
 fn are_same(stars: &[bool], others: &[bool]) -> bool
-    ensures { IsTrue result ↔ (stars.now ≡ others.now) }
+    ensures { result ≡ spec.same_stars stars.now others.now }
 {
-    if stars.len() != others.len() {
-        return false;
-    }
-    for i in 0..stars.len() {
-        if stars[i] != others[i] {
+    let mut stars = stars;
+    let mut others = others;
+    while let Some((star, rest)) = stars.split_first() {
+        let Some((other, others_rest)) = others.split_first() else {
+            return false;
+        };
+        if *star != *other {
             return false;
         }
+        stars = rest;
+        others = others_rest;
     }
-    true
+    others.is_empty()
 }

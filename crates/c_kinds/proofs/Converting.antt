@@ -68,14 +68,14 @@ split (negsuc a) n some =
     let below : a % n < n = omega (arith, some) in
     omega (arith, ints, parts, one_more, below)
 
-power_twice : (bits : ℕ) → 0 < bits → 2 ^ bits ≡ 2 * 2 ^ (bits - 1)
+pub power_twice : (bits : ℕ) → 0 < bits → 2 ^ bits ≡ 2 * 2 ^ (bits - 1)
 power_twice zero some = elim some [ ]
 power_twice (suc bits) some =
     let up = pow-suc 2 bits in
     let back : 2 ^ (suc bits - 1) ≡ 2 ^ bits = ap (λ k. 2 ^ k) (omega arith) in
     omega (arith, up, back)
 
-power_some : (bits : ℕ) → 0 < 2 ^ bits
+pub power_some : (bits : ℕ) → 0 < 2 ^ bits
 power_some zero = omega arith
 power_some (suc bits) = let below = power_some bits in let up = pow-suc 2 bits in omega (arith, up)
 
@@ -136,7 +136,7 @@ from_t false t = absurd t
 le_test : (a b : ℤ) → a ≤ℤ b → int_le a b ≡ true
 le_test a b h = from_t (int_le a b) h.le
 
-test_le : (a b : ℤ) → int_le a b ≡ true → a ≤ℤ b
+pub test_le : (a b : ℤ) → int_le a b ≡ true → a ≤ℤ b
 test_le a b e = le_z_yes (subst T (sym e) tt)
 
 both_true : {a b : Bool} → a ≡ true → b ≡ true → (a && b) ≡ true

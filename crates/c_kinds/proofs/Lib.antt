@@ -2,3 +2,4 @@ pub mod Converting
 pub mod Examples
 pub mod Laying
 pub mod Ranking
+pub mod Sizes

@@ -13,7 +13,7 @@ use Rattle.c_kinds.specs.declared.models.Machdep.TheVariants as model
 use Rattle.c_kinds.specs.Conversions.{rank, promote, holds_all, common}
 use Rattle.c_kinds.specs.Laws.{Promotes, PromotionKeeps, IsCommon, CommonIsCommon}
 
-every_kind : List Kind
+unfoldable pub every_kind : List Kind
 every_kind = kind.Bool ∷ kind.Char ∷ kind.SChar ∷ kind.UChar ∷ kind.Short ∷ kind.UShort ∷ kind.Int ∷ kind.UInt ∷ kind.Long ∷ kind.ULong ∷ kind.LLong ∷ kind.ULLong ∷ []
 
 at_place : (k : Kind) → slice_get every_kind (kind_place k) ≡ Some k
@@ -36,7 +36,7 @@ all_at p [] i x a m = absurd cc
 all_at p (y ∷ xs) zero x a m = let same : y ≡ x = cc in sym (ap p same) ∙ (and_parts (p y) (list_all p xs) a).0
 all_at p (y ∷ xs) (suc i) x a m = all_at p xs i x (and_parts (p y) (list_all p xs) a).1 m
 
-for_each : (p : Kind → Bool) → list_all p every_kind ≡ true → (k : Kind) → p k ≡ true
+pub for_each : (p : Kind → Bool) → list_all p every_kind ≡ true → (k : Kind) → p k ≡ true
 for_each p all k = all_at p every_kind (kind_place k) k all (at_place k)
 
 -- the tests of the laws, which compute
@@ -65,7 +65,7 @@ promotion_keeps m k =
     let both = and_parts (holds_all m (promote k) k) _ (for_each (promotes m) (all_promote m) k) in
     record { holds = both.0; rank = le_of (rank kind.Int) (rank (promote k)) both.1 }
 
-where_signed : (s h : Bool) → (not s || h) ≡ true → s ≡ true → h ≡ true
+pub where_signed : (s h : Bool) → (not s || h) ≡ true → s ≡ true → h ≡ true
 where_signed true h e is = e
 where_signed false h e is = absurd cc
 

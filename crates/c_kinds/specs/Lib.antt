@@ -1,4 +1,5 @@
 pub mod Models
 pub mod Conversions
+pub mod Numbers
 pub mod Layouts
 pub mod Laws

@@ -8,7 +8,7 @@ use crate::models::Machdep;
 use wp_base::Kind;
 
 // Half of how many numbers there are of a kind's bits.
-fn half_of(model: Machdep, kind: Kind) -> u128
+pub(crate) fn half_of(model: Machdep, kind: Kind) -> u128
     ensures { result ≡ 2 ^ (kind_bits (spec.long_bits model) kind - 1) }
 {
     match (kind, model) {
@@ -20,14 +20,14 @@ fn half_of(model: Machdep, kind: Kind) -> u128
     }
 }
 
-// What is left of the number modulo twice the half.
-#[tactic(auto, using(crate::proofs::Converting::rest_is))]
-fn rest_of(value: i128, half: u128) -> u128
-    requires some { 0 < half }
-    requires small { half ≤ 2 ^ 63 }
-    ensures { result ≡ floor_mod value (2 * half) }
+// What is left of the number modulo this one.
+#[tactic(auto, using(crate::proofs::Converting::rest_is, crate::proofs::Converting::rest_below))]
+pub(crate) fn rest_of(value: i128, count: u128) -> u128
+    requires some { 0 < count }
+    requires small { count ≤ 2 ^ 64 }
+    ensures { result ≡ floor_mod value count }
 {
-    value.rem_euclid(2 * half as i128) as u128
+    value.rem_euclid(count as i128) as u128
 }
 
 // The number from minus the half on that is the same modulo twice the half.
@@ -49,7 +49,7 @@ pub fn convert(model: Machdep, kind: Kind, value: i128) -> i128
         return i128::from(value != 0);
     }
     let half = half_of(model, kind);
-    let rest = rest_of(value, half);
+    let rest = rest_of(value, 2 * half);
     if is_signed(kind) {
         signed_of(rest, half)
     } else {

@@ -12,11 +12,12 @@ use wp_base::Kind;
 fn can_shift(model: Machdep, kind: Kind, value: i128, amount: i128) -> bool
     ensures { result ≡ spec.can_shift model kind value amount }
 {
-    holds(model, kind, value) && 0 <= amount && amount < bits(model, kind)
+    holds(model, kind, value) && 0 <= amount && amount < i128::from(bits(model, kind))
 }
 
-fn bits(model: Machdep, kind: Kind) -> i128
-    ensures { result ≡ pos (spec.bits model kind) }
+/// How many bits a kind has (C11 5.2.4.2.1, 6.2.6.2).
+pub fn bits(model: Machdep, kind: Kind) -> u32
+    ensures { result ≡ spec.bits model kind }
 {
     match (kind, model) {
         (Kind::Bool | Kind::Char | Kind::SChar | Kind::UChar, _) => 8,

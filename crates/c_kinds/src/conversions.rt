@@ -2,6 +2,7 @@
 ghost use Rattle.std.specs.Prelude.{◌≡◌};
 ghost use Rattle.wp_base.specs.Kinds.{is_signed as is_signed_of};
 ghost use Rattle.c_kinds.specs.Conversions as spec;
+ghost use Rattle.c_kinds.specs.Models as kinds;
 
 use crate::models::Machdep;
 use crate::ranges::range;
@@ -89,5 +90,15 @@ pub fn common(model: Machdep, first: Kind, second: Kind) -> Kind
         (true, true) | (false, false) => of_rank(first, second),
         (true, false) => of_both(model, first, second),
         (false, true) => of_both(model, second, first),
+    }
+}
+
+/// The kind of `sizeof` (C11 6.5.3.4p5, 7.19).
+pub fn size_kind(model: Machdep) -> Kind
+    ensures { result ≡ kinds.size_kind model }
+{
+    match model {
+        Machdep::X86_32 => Kind::UInt,
+        Machdep::X86_64 => Kind::ULong,
     }
 }

@@ -1,0 +1,4 @@
+pub mod Literals
+pub mod Rules
+pub mod Constants
+pub mod Shapes

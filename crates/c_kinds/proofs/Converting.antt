@@ -60,7 +60,7 @@ rest_below (pos a) n some = omega (arith, some)
 rest_below (negsuc a) n some = omega arith
 
 -- a number is what is left of it and a multiple
-split : (z : ℤ) (n : ℕ) → 0 < n → z ≡ pos (floor_mod z n) +ℤ (floor_div z n *ℤ pos n)
+pub split : (z : ℤ) (n : ℕ) → 0 < n → z ≡ pos (floor_mod z n) +ℤ (floor_div z n *ℤ pos n)
 split (pos a) n some = let parts = mod-add-div' a n in omega (arith, ints, parts)
 split (negsuc a) n some =
     let parts = mod-add-div' a n in
@@ -133,13 +133,13 @@ from_t : (b : Bool) → T b → b ≡ true
 from_t true t = refl
 from_t false t = absurd t
 
-le_test : (a b : ℤ) → a ≤ℤ b → int_le a b ≡ true
+pub le_test : (a b : ℤ) → a ≤ℤ b → int_le a b ≡ true
 le_test a b h = from_t (int_le a b) h.le
 
 pub test_le : (a b : ℤ) → int_le a b ≡ true → a ≤ℤ b
 test_le a b e = le_z_yes (subst T (sym e) tt)
 
-both_true : {a b : Bool} → a ≡ true → b ≡ true → (a && b) ≡ true
+pub both_true : {a b : Bool} → a ≡ true → b ≡ true → (a && b) ≡ true
 both_true p q = λ i. p i && q i
 
 -- the ends of a kind other than `_Bool`

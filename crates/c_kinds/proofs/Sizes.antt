@@ -18,18 +18,18 @@ use Rattle.c_kinds.specs.Numbers.{both_held, has_quotient, count_of, bits, bits_
 use Rattle.c_kinds.proofs.Ranking.{every_kind, for_each, where_signed}
 use Rattle.c_kinds.proofs.Converting.{test_le, rest_below, power_some, power_twice, bits_some}
 
-abbrev least : ℤ
+abbrev pub least : ℤ
 least = negsuc 9223372036854775807
 
-abbrev most : ℤ
+abbrev pub most : ℤ
 most = pos 18446744073709551615
 
-abbrev most_signed : ℤ
+abbrev pub most_signed : ℤ
 most_signed = pos 9223372036854775807
 
 -- a test that computes
 abbrev is_narrow : Machdep → Kind → Bool
-is_narrow m k = int_le least (low m k) && (int_le (high m k) most && (int_le (pos 0) (high m k) && (not (is_signed k) || int_le (high m k) most_signed)))
+is_narrow m k = int_le least (low m k) && (int_le (high m k) most && ((int_le (pos 0) (high m k) && int_le (low m k) (pos 0)) && (not (is_signed k) || int_le (high m k) most_signed)))
 
 all_narrow : (m : Machdep) → list_all (is_narrow m) every_kind ≡ true
 unfolding every_kind
@@ -37,21 +37,24 @@ all_narrow model.X86_32 = refl
 all_narrow model.X86_64 = refl
 
 -- the ends of a kind
-record IsNarrow (m : Machdep) (k : Kind) : Type 0 where
-  above : least ≤ℤ low m k
-  below : high m k ≤ℤ most
-  natural : pos 0 ≤ℤ high m k
-  signed : is_signed k ≡ true → high m k ≤ℤ most_signed
+pub record IsNarrow (m : Machdep) (k : Kind) : Type 0 where
+  pub above : least ≤ℤ low m k
+  pub below : high m k ≤ℤ most
+  pub natural : pos 0 ≤ℤ high m k
+  pub no_more : low m k ≤ℤ pos 0
+  pub signed : is_signed k ≡ true → high m k ≤ℤ most_signed
 
-narrow : (m : Machdep) (k : Kind) → IsNarrow m k
+pub narrow : (m : Machdep) (k : Kind) → IsNarrow m k
 narrow m k =
     let all = and_parts (int_le least (low m k)) _ (for_each (is_narrow m) (all_narrow m) k) in
     let rest = and_parts (int_le (high m k) most) _ all.1 in
-    let last = and_parts (int_le (pos 0) (high m k)) _ rest.1 in
+    let last = and_parts (int_le (pos 0) (high m k) && int_le (low m k) (pos 0)) _ rest.1 in
+    let zero = and_parts (int_le (pos 0) (high m k)) _ last.0 in
     record {
       above = test_le least (low m k) all.0;
       below = test_le (high m k) most rest.0;
-      natural = test_le (pos 0) (high m k) last.0;
+      natural = test_le (pos 0) (high m k) zero.0;
+      no_more = test_le (low m k) (pos 0) zero.1;
       signed = λ is. test_le (high m k) most_signed (where_signed (is_signed k) (int_le (high m k) most_signed) last.1 is);
     }
 

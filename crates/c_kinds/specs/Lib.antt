@@ -3,3 +3,4 @@ pub mod Conversions
 pub mod Numbers
 pub mod Layouts
 pub mod Laws
+pub mod NumberLaws

@@ -44,9 +44,9 @@ fn first_holding(model: Machdep, value: i128, kinds: &[Kind]) -> Option<Kind>
     None
 }
 
-/// A number, of the first of these kinds that holds it (C11 6.4.4.1p5).
+// A number, of the first of these kinds that holds it (C11 6.4.4.1p5).
 #[tactic(auto, unfolding(crate::specs::Literals::literal))]
-pub(crate) fn literal(model: Machdep, value: i128, kinds: &[Kind]) -> Option<Constant>
+fn literal(model: Machdep, value: i128, kinds: &[Kind]) -> Option<Constant>
     ensures { result ≡ spec.literal model value kinds.now }
 {
     let kind = first_holding(model, value, kinds)?;
@@ -57,7 +57,7 @@ pub(crate) fn literal(model: Machdep, value: i128, kinds: &[Kind]) -> Option<Con
 }
 
 /// A token as a constant.
-pub(crate) fn token_constant(model: Machdep, token: &TokenKind) -> Option<Constant>
+pub fn token_constant(model: Machdep, token: &TokenKind) -> Option<Constant>
     ensures { result ≡ spec.token_constant model token.now }
 {
     match token {
@@ -76,7 +76,7 @@ pub(crate) fn token_constant(model: Machdep, token: &TokenKind) -> Option<Consta
 }
 
 /// A character constant, which is an `int` (C11 6.4.4.4p10).
-pub(crate) fn char_constant(model: Machdep, value: i128) -> Option<Constant>
+pub fn char_constant(model: Machdep, value: i128) -> Option<Constant>
     ensures { result ≡ spec.char_constant model value }
 {
     literal(model, value, &[Kind::Int])

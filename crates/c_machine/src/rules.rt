@@ -74,8 +74,8 @@ pub(crate) fn unary_of(model: Machdep, op: UnOp, of: Constant) -> Option<Constan
     }
 }
 
-// An operator on two numbers of one kind.
-fn operate(model: Machdep, op: BinOp, kind: Kind, first: i128, second: i128) -> Option<i128>
+/// An operator on two numbers of their common kind (C11 6.5.5, 6.5.6, 6.5.8 to 6.5.12); none for the other operators.
+pub fn operate(model: Machdep, op: BinOp, kind: Kind, first: i128, second: i128) -> Option<i128>
     ensures { result ≡ spec.operate model op kind first second }
 {
     match op {
@@ -109,7 +109,8 @@ fn operate_on_both(
     operate(model, op, kind, first?, second?)
 }
 
-fn result_kind(op: BinOp, kind: Kind) -> Kind
+/// The kind of what an operator makes of two numbers of their common kind: `int` of a comparison.
+pub fn result_kind(op: BinOp, kind: Kind) -> Kind
     ensures { result ≡ spec.result_kind op kind }
 {
     match op {
@@ -147,7 +148,8 @@ fn joined(model: Machdep, op: BinOp, left: Constant, right: Constant) -> Constan
     }
 }
 
-fn shift(model: Machdep, op: BinOp, kind: Kind, value: i128, amount: i128) -> Option<i128>
+/// A shift of a number of the promoted kind of its left operand (C11 6.5.7); none for the other operators.
+pub fn shift(model: Machdep, op: BinOp, kind: Kind, value: i128, amount: i128) -> Option<i128>
     ensures { result ≡ spec.shift model op kind value amount }
 {
     match op {

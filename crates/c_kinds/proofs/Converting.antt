@@ -1,5 +1,5 @@
 -- Conversions to kinds: residues, and what a converted number has in common with the one that it was.
-use Rattle.std.proofs.Common.{◌≡◌, ℕ, zero, suc, ◌+◌, ◌-◌, ◌*◌, ◌/◌, ◌%◌, ◌^◌, ◌<◌, ◌≤◌, ℤ, pos, negsuc, ◌+ℤ◌, ◌-ℤ◌, ◌*ℤ◌, Bool, true, false, ◌&&◌, refl, sym, ap, ◌∙◌, subst, T, arith, rules}
+use Rattle.std.proofs.Common.{◌≡◌, ℕ, zero, suc, ◌+◌, ◌-◌, ◌*◌, ◌/◌, ◌%◌, ◌^◌, ◌<◌, ℤ, pos, negsuc, ◌+ℤ◌, ◌-ℤ◌, ◌*ℤ◌, Bool, true, false, ◌&&◌, refl, sym, ap, ◌∙◌, subst, T, arith}
 use Rattle.std.specs.Prelude.{int_le, ◌≤ℤ◌}
 use lib.Signed.{le_z_yes}
 use Rattle.std.specs.Int.{int_rem_euclid}
@@ -8,7 +8,6 @@ use Rattle.std.proofs.lemmas.Bool.{and_parts}
 use Rattle.std.proofs.Math.Nat.{mod-add-mod, mod-eq_of_lt, mod-add-div', mul-suc, pow-suc, suc-mul}
 use Rattle.wp_base.specs.declared.kinds.Kind.{Kind}
 use Rattle.wp_base.specs.declared.kinds.Kind.TheVariants as kind
-use Rattle.wp_base.specs.Kinds as base
 use Rattle.wp_base.specs.Kinds.{floor_div, floor_mod, kind_bits, is_signed, wrapped, whole_high, truth_number}
 use Rattle.c_kinds.specs.declared.models.Machdep.{Machdep}
 use Rattle.c_kinds.specs.declared.models.Machdep.TheVariants as model

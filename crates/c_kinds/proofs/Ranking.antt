@@ -1,5 +1,5 @@
 -- Promotion and common kinds, kind by kind.
-use Rattle.std.proofs.Common.{◌≡◌, ℕ, zero, suc, ◌≤◌, Bool, true, false, not, ◌&&◌, ◌||◌, List, [], ◌∷◌, refl, sym, ap, ◌∙◌, Option, Some, None, arith, rules}
+use Rattle.std.proofs.Common.{◌≡◌, ℕ, zero, suc, ◌≤◌, Bool, true, false, not, ◌&&◌, ◌||◌, List, [], ◌∷◌, refl, sym, ap, ◌∙◌, Some, arith, rules}
 use Rattle.std.specs.Prelude.{nat_le, slice_get}
 use Rattle.std.specs.List.{list_all}
 use Rattle.std.proofs.lemmas.Bool.{and_parts}
@@ -11,7 +11,7 @@ use Rattle.wp_base.specs.Kinds.{is_signed, kind_place}
 use Rattle.c_kinds.specs.declared.models.Machdep.{Machdep}
 use Rattle.c_kinds.specs.declared.models.Machdep.TheVariants as model
 use Rattle.c_kinds.specs.Conversions.{rank, promote, holds_all, common}
-use Rattle.c_kinds.specs.Laws.{Promotes, PromotionKeeps, IsCommon, CommonIsCommon}
+use Rattle.c_kinds.specs.Laws.{PromotionKeeps, CommonIsCommon}
 
 unfoldable pub every_kind : List Kind
 every_kind = kind.Bool ∷ kind.Char ∷ kind.SChar ∷ kind.UChar ∷ kind.Short ∷ kind.UShort ∷ kind.Int ∷ kind.UInt ∷ kind.Long ∷ kind.ULong ∷ kind.LLong ∷ kind.ULLong ∷ []

@@ -1,18 +1,18 @@
 -- Results of operators are of the kind, and stand for exact numbers.
-use Rattle.std.proofs.Common.{◌≡◌, ℕ, zero, suc, ◌+◌, ◌-◌, ◌*◌, ◌/◌, ◌%◌, ◌^◌, ◌<◌, ◌≤◌, ℤ, pos, negsuc, ◌+ℤ◌, ◌-ℤ◌, ◌*ℤ◌, ◌≤ℤ◌, Bool, true, false, not, ◌&&◌, Option, Some, None, refl, sym, ap, ◌∙◌, subst, arith}
-use Rattle.std.specs.Prelude.{◌<ℤ◌, if◌then◌else◌, IsSome, int_le, int_lt, int_div, int_rem, unsigned_abs, neg_ℤ}
+use Rattle.std.proofs.Common.{◌≡◌, ℕ, zero, suc, ◌-◌, ◌/◌, ◌%◌, ◌^◌, ◌<◌, ◌≤◌, ℤ, pos, negsuc, ◌+ℤ◌, ◌-ℤ◌, ◌*ℤ◌, ◌≤ℤ◌, Bool, true, false, not, ◌&&◌, Option, Some, None, refl, sym, ap, ◌∙◌, subst, arith}
+use Rattle.std.specs.Prelude.{if◌then◌else◌, int_le, int_lt, int_div, int_rem, unsigned_abs, neg_ℤ}
 use Rattle.std.specs.Ordering.{int_eq}
 use Rattle.std.proofs.lemmas.Int.{ints, quot-rem, rem_below}
-use Rattle.std.proofs.lemmas.Bool.{and_parts, not-true}
+use Rattle.std.proofs.lemmas.Bool.{and_parts}
 use Rattle.std.proofs.Math.Nat.{mod-le, div-le_self, mod-eq_of_lt, add-mul, suc-mul}
 use Rattle.wp_base.specs.declared.kinds.Kind.{Kind}
 use Rattle.wp_base.specs.declared.kinds.Kind.TheVariants as kind
-use Rattle.wp_base.specs.Kinds.{floor_div, floor_mod, is_signed, kind_bits, whole_high}
+use Rattle.wp_base.specs.Kinds.{floor_div, floor_mod, is_signed, whole_high}
 use Rattle.c_kinds.specs.declared.models.Machdep.{Machdep}
-use Rattle.c_kinds.specs.Models.{long_bits, low, high, holds}
+use Rattle.c_kinds.specs.Models.{low, high, holds}
 use Rattle.c_kinds.specs.Numbers as n
 use Rattle.c_kinds.specs.Laws.{IsCongruent}
-use Rattle.c_kinds.specs.NumberLaws.{IsOfKind, AreOfKind, ResultsAreOfKind, StandsFor, AreExact, ResultsAreExact, Divides, QuotientsDivide, RoundsDown, ShiftsRoundDown}
+use Rattle.c_kinds.specs.NumberLaws.{IsOfKind, ResultsAreOfKind, StandsFor, ResultsAreExact, QuotientsDivide, RoundsDown, ShiftsRoundDown}
 use Rattle.c_kinds.proofs.Converting.{conversions_keep, test_le, le_test, both_true, split, rest_below, power_some}
 use Rattle.c_kinds.proofs.Sizes.{narrow, not_negative}
 

@@ -1,5 +1,5 @@
 -- Numbers of a kind are small: those of all kinds lie from -2^63 to 2^64 - 1, and those of signed kinds below 2^63.
-use Rattle.std.proofs.Common.{◌≡◌, ℕ, zero, suc, ◌+◌, ◌-◌, ◌*◌, ◌/◌, ◌%◌, ◌^◌, ◌<◌, ◌≤◌, lit<, subst, T, ℤ, pos, negsuc, ◌+ℤ◌, ◌-ℤ◌, ◌*ℤ◌, ◌≤ℤ◌, Bool, true, false, not, ◌&&◌, ◌||◌, FitsSigned, refl, sym, ap, ◌∙◌, arith}
+use Rattle.std.proofs.Common.{◌≡◌, ℕ, zero, suc, ◌-◌, ◌*◌, ◌/◌, ◌%◌, ◌^◌, ◌<◌, ◌≤◌, lit<, subst, T, ℤ, pos, negsuc, ◌+ℤ◌, ◌-ℤ◌, ◌*ℤ◌, ◌≤ℤ◌, Bool, true, false, not, ◌&&◌, ◌||◌, FitsSigned, refl, sym, ap, ◌∙◌, arith}
 use Rattle.std.specs.Prelude.{◌<ℤ◌, int_le, int_lt, nat_le, int_div, int_rem, unsigned_abs, neg_ℤ, if◌then◌else◌}
 use Rattle.std.proofs.Math.Nat.{mul-le-mul, div-le_self, pow-le-pow_right}
 use Rattle.std.specs.List.{list_all}
@@ -8,7 +8,7 @@ use Rattle.std.proofs.lemmas.Int.{ints, fits_signed_mul, fits_signed_from_abs, t
 use mir.Val.{to_z, of_z}
 use Rattle.std.proofs.lemmas.Bool.{and_parts, not-true}
 use mir.Syntax.{w128}
-use lib.Signed.{lt_z_yes, shr_z, mag, mag_rem, mag_shr}
+use lib.Signed.{lt_z_yes, shr_z, mag_rem, mag_shr}
 use Rattle.wp_base.specs.declared.kinds.Kind.{Kind}
 use Rattle.wp_base.specs.Kinds.{is_signed, kind_bits, floor_div, floor_mod}
 use Rattle.c_kinds.specs.declared.models.Machdep.{Machdep}
@@ -16,7 +16,7 @@ use Rattle.c_kinds.specs.declared.models.Machdep.TheVariants as model
 use Rattle.c_kinds.specs.Models.{long_bits, low, high, holds}
 use Rattle.c_kinds.specs.Numbers.{both_held, has_quotient, count_of, bits, bits_of, can_shift}
 use Rattle.c_kinds.proofs.Ranking.{every_kind, for_each, where_signed}
-use Rattle.c_kinds.proofs.Converting.{test_le, rest_below, power_some, power_twice, bits_some}
+use Rattle.c_kinds.proofs.Converting.{test_le, rest_below, power_some}
 
 abbrev pub least : ℤ
 least = negsuc 9223372036854775807

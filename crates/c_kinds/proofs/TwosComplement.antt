@@ -1,6 +1,6 @@
 -- A number and its bits, in two's complement.
-use Rattle.std.proofs.Common.{◌≡◌, ℕ, zero, suc, ◌+◌, ◌-◌, ◌*◌, ◌%◌, ◌^◌, ◌<◌, ◌≤◌, ℤ, pos, negsuc, ◌+ℤ◌, ◌-ℤ◌, ◌≤ℤ◌, Bool, true, false, Option, Some, refl, sym, ap, ◌∙◌, subst, inl, inr, ◌⊎◌, arith}
-use Rattle.std.specs.Prelude.{if◌then◌else◌, int_le, bit_and, bit_or, bit_xor, min, max}
+use Rattle.std.proofs.Common.{◌≡◌, ℕ, suc, ◌+◌, ◌-◌, ◌%◌, ◌^◌, ◌<◌, ◌≤◌, ℤ, pos, negsuc, ◌+ℤ◌, ◌-ℤ◌, ◌≤ℤ◌, Bool, true, false, sym, ap, ◌∙◌, subst, inl, inr, arith}
+use Rattle.std.specs.Prelude.{if◌then◌else◌, int_le, bit_and, bit_or, bit_xor}
 use Rattle.std.specs.Int.{bit_at}
 use Rattle.std.proofs.lemmas.Int.{ints}
 use Rattle.std.proofs.lemmas.Bool.{and_parts, cases_lt}
@@ -9,11 +9,11 @@ use Rattle.std.proofs.lemmas.Nat.Bits.{bit_at_and, bit_at_or, bit_at_xor}
 use Rattle.std.proofs.Math.Nat.{mod-eq_of_lt, mod-eq-sub-mod}
 use Rattle.wp_base.specs.declared.kinds.Kind.{Kind}
 use Rattle.wp_base.specs.declared.kinds.Kind.TheVariants as kind
-use Rattle.wp_base.specs.Kinds.{floor_mod, is_signed, kind_bits, whole_high, wrapped}
+use Rattle.wp_base.specs.Kinds.{floor_mod, is_signed, whole_high, wrapped}
 use Rattle.c_kinds.specs.declared.models.Machdep.{Machdep}
-use Rattle.c_kinds.specs.Models.{long_bits, low, high, holds, convert}
+use Rattle.c_kinds.specs.Models.{low, high, holds}
 use Rattle.c_kinds.specs.Numbers as n
-use Rattle.c_kinds.specs.NumberLaws.{bit, ActsOnBits, OperatorsActOnBits}
+use Rattle.c_kinds.specs.NumberLaws.{bit, OperatorsActOnBits}
 use Rattle.c_kinds.proofs.Converting.{convert_is, bits_some, test_le, power_some, power_twice}
 use Rattle.c_kinds.proofs.Results.{high_is, chosen_is}
 use Rattle.c_kinds.proofs.Sizes.{bits_below}

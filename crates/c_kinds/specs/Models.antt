@@ -1,5 +1,5 @@
 -- The two data models, and what the kinds hold in them (C11 5.2.4.2.1, 6.2.5, 6.2.6.2).
-use Rattle.std.specs.Prelude.{ℕ, ◌^◌, Bool, ◌&&◌, ℤ, int_le}
+use Rattle.std.specs.Prelude.{ℕ, Bool, ◌&&◌, ℤ, int_le}
 use Rattle.wp_base.specs.declared.kinds.Kind.{Kind}
 use Rattle.wp_base.specs.declared.kinds.Kind.TheVariants as kind
 use Rattle.wp_base.specs.Kinds as base

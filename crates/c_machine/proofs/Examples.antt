@@ -1,25 +1,15 @@
 -- Constants by example: what the definition gives.
-use Rattle.std.proofs.Common.{◌≡◌, ℕ, ℤ, pos, negsuc, Option, Some, None, List, [], ◌∷◌, refl}
-use Rattle.wp_base.specs.declared.kinds.Kind.{Kind}
+use Rattle.std.proofs.Common.{◌≡◌, ℕ, pos, negsuc, Some, None, [], ◌∷◌, refl}
 use Rattle.wp_base.specs.declared.kinds.Kind.TheVariants as kind
-use Rattle.c_syntax.specs.declared.expr.UnOp.{UnOp}
 use Rattle.c_syntax.specs.declared.expr.UnOp.TheVariants as un
 use Rattle.c_syntax.specs.declared.expr.BinOp.{BinOp}
 use Rattle.c_syntax.specs.declared.expr.BinOp.TheVariants as bin
-use Rattle.c_syntax.specs.declared.token.Token.{Token}
-use Rattle.c_syntax.specs.declared.token.TokenKind.{TokenKind}
 use Rattle.c_syntax.specs.declared.token.TokenKind.TheVariants as token
 use Rattle.c_syntax.specs.Expr as e
-use Rattle.c_kinds.specs.declared.models.Machdep.{Machdep}
-use Rattle.c_kinds.specs.Models.{holds, convert, size_kind}
-use Rattle.c_kinds.specs.Conversions.{promote, common}
 use Rattle.c_kinds.specs.Numbers as n
-use Rattle.c_machine.specs.declared.rules.Constant.{Constant}
-use Rattle.c_machine.specs.Literals.{kinds_for, first_holding, literal, token_constant, char_constant}
-use Rattle.c_machine.specs.Rules.{constant, converted, on_both, unary_of, operate, shift, binary_of, is_true, and_value, or_value, choose, chosen, cast_to, bytes, pointer_bytes, elements, array_bytes}
-use Rattle.c_machine.specs.Constants.{unary, binary, conditional, cast, size_constant, kind_of, constant_of, bytes_of}
-use Rattle.c_machine.specs.Evaluates as r
-use Rattle.c_machine.specs.Evaluates.{IsConstant, Evaluates, Takes, is_arithmetic, is_comparison, is_shift, is_logic}
+use Rattle.c_machine.specs.Literals.{literal}
+use Rattle.c_machine.specs.Rules.{constant, unary_of, binary_of, chosen, array_bytes}
+use Rattle.c_machine.specs.Constants.{constant_of}
 use Rattle.c_syntax.specs.declared.token.Base.TheVariants as base
 use Rattle.c_syntax.specs.declared.token.Suffix.TheVariants as suffix
 use Rattle.c_kinds.specs.declared.models.Machdep.TheVariants as model

@@ -1,5 +1,5 @@
 -- What the function gives, the rules derive.
-use Rattle.std.proofs.Common.{◌≡◌, ◌≢◌, ℕ, ℤ, pos, ◌*ℤ◌, ◌≤ℤ◌, Bool, true, false, List, [], ◌∷◌, Option, Some, None, refl, sym, ap, ◌∙◌, subst}
+use Rattle.std.proofs.Common.{◌≡◌, ◌≢◌, ℕ, ℤ, pos, ◌*ℤ◌, Bool, true, false, List, Option, Some, None, refl, sym, ap, ◌∙◌, subst}
 use Rattle.std.specs.Prelude.{int_le, if◌then◌else◌}
 use Rattle.std.specs.Option.{option_map, option_and_then}
 use Rattle.std.specs.Ordering.{int_eq}
@@ -26,7 +26,7 @@ use Rattle.c_machine.specs.Rules.{constant, converted, on_both, unary_of, operat
 use Rattle.c_machine.specs.Constants.{unary, binary, conditional, cast, size_constant, kind_of, constant_of, bytes_of}
 use Rattle.c_machine.specs.Evaluates as r
 use Rattle.c_machine.specs.Evaluates.{IsConstant, Evaluates, Takes, is_arithmetic, is_comparison, is_shift, is_logic}
-use Rattle.c_machine.proofs.Given.{arithmetic_is, comparison_is, shift_is, joined_value, shifted_value}
+use Rattle.c_machine.proofs.Given.{arithmetic_is, comparison_is, shift_is}
 
 -- what the rules derive of an expression that is this constant
 record Described (m : Machdep) (a : e.Expr) (c : Constant) : Type 0 where

@@ -1,5 +1,5 @@
 -- What the rules derive, the function gives.
-use Rattle.std.proofs.Common.{◌≡◌, ◌≢◌, ℕ, ℤ, pos, ◌*ℤ◌, ◌≤ℤ◌, Bool, true, false, List, [], ◌∷◌, Option, Some, None, refl, sym, ap, ◌∙◌}
+use Rattle.std.proofs.Common.{◌≡◌, ◌≢◌, ℤ, pos, ◌*ℤ◌, true, false, List, [], ◌∷◌, Option, Some, None, refl, ap, ◌∙◌}
 use Rattle.std.specs.Prelude.{int_le, if◌then◌else◌}
 use Rattle.std.specs.Option.{option_map, option_and_then}
 use Rattle.std.specs.Ordering.{int_eq}
@@ -8,13 +8,9 @@ use Rattle.std.proofs.lemmas.Bool.Decides.{Decides-int_eq}
 use Rattle.c_kinds.proofs.Converting.{le_test}
 use Rattle.wp_base.specs.declared.kinds.Kind.{Kind}
 use Rattle.wp_base.specs.declared.kinds.Kind.TheVariants as kind
-use Rattle.c_syntax.specs.declared.expr.UnOp.{UnOp}
 use Rattle.c_syntax.specs.declared.expr.UnOp.TheVariants as un
 use Rattle.c_syntax.specs.declared.expr.BinOp.{BinOp}
 use Rattle.c_syntax.specs.declared.expr.BinOp.TheVariants as bin
-use Rattle.c_syntax.specs.declared.token.Token.{Token}
-use Rattle.c_syntax.specs.declared.token.TokenKind.{TokenKind}
-use Rattle.c_syntax.specs.declared.token.TokenKind.TheVariants as token
 use Rattle.c_syntax.specs.Expr as e
 use Rattle.c_kinds.specs.declared.models.Machdep.{Machdep}
 use Rattle.c_kinds.specs.Models.{holds, convert, size_kind}
@@ -22,8 +18,8 @@ use Rattle.c_kinds.specs.Conversions.{promote, common}
 use Rattle.c_kinds.specs.Numbers as n
 use Rattle.c_machine.specs.declared.rules.Constant.{Constant}
 use Rattle.c_machine.specs.Literals.{kinds_for, first_holding, literal, token_constant, char_constant}
-use Rattle.c_machine.specs.Rules.{constant, converted, on_both, unary_of, operate, shift, binary_of, is_true, and_value, or_value, choose, chosen, cast_to, bytes, pointer_bytes, elements, array_bytes}
-use Rattle.c_machine.specs.Constants.{unary, binary, conditional, cast, size_constant, kind_of, constant_of, bytes_of}
+use Rattle.c_machine.specs.Rules.{constant, converted, on_both, unary_of, operate, shift, binary_of, is_true, and_value, or_value, choose, chosen, array_bytes}
+use Rattle.c_machine.specs.Constants.{unary, binary, conditional, cast, size_constant, constant_of, bytes_of}
 use Rattle.c_machine.specs.Evaluates as r
 use Rattle.c_machine.specs.Evaluates.{IsConstant, Evaluates, Takes, is_arithmetic, is_comparison, is_shift, is_logic}
 

@@ -1,5 +1,5 @@
 -- The value of a constant is a number of its kind.
-use Rattle.std.proofs.Common.{◌≡◌, ℕ, ℤ, pos, ◌*ℤ◌, Bool, true, false, List, [], ◌∷◌, Option, Some, None, refl, sym, ap, ◌∙◌, subst}
+use Rattle.std.proofs.Common.{◌≡◌, ℤ, pos, ◌*ℤ◌, Bool, true, false, List, [], ◌∷◌, Option, Some, refl, sym, subst}
 use Rattle.std.specs.Prelude.{if◌then◌else◌, not, int_lt, int_le}
 use Rattle.std.specs.Ordering.{int_eq}
 use Rattle.std.specs.List.{list_all}
@@ -10,22 +10,15 @@ use Rattle.c_kinds.proofs.Ranking.{every_kind, for_each}
 use Rattle.c_kinds.proofs.Results.{results_are_of_kind, chosen_is}
 use Rattle.wp_base.specs.declared.kinds.Kind.{Kind}
 use Rattle.wp_base.specs.declared.kinds.Kind.TheVariants as kind
-use Rattle.c_syntax.specs.declared.expr.UnOp.{UnOp}
-use Rattle.c_syntax.specs.declared.expr.UnOp.TheVariants as un
 use Rattle.c_syntax.specs.declared.expr.BinOp.{BinOp}
 use Rattle.c_syntax.specs.declared.expr.BinOp.TheVariants as bin
-use Rattle.c_syntax.specs.declared.token.Token.{Token}
-use Rattle.c_syntax.specs.declared.token.TokenKind.{TokenKind}
-use Rattle.c_syntax.specs.declared.token.TokenKind.TheVariants as token
 use Rattle.c_syntax.specs.Expr as e
 use Rattle.c_kinds.specs.declared.models.Machdep.{Machdep}
 use Rattle.c_kinds.specs.Models.{holds, convert, size_kind}
 use Rattle.c_kinds.specs.Conversions.{promote, common}
 use Rattle.c_kinds.specs.Numbers as n
-use Rattle.c_machine.specs.declared.rules.Constant.{Constant}
-use Rattle.c_machine.specs.Literals.{kinds_for, first_holding, literal, token_constant, char_constant}
-use Rattle.c_machine.specs.Rules.{constant, converted, on_both, unary_of, operate, shift, binary_of, is_true, and_value, or_value, choose, chosen, cast_to, bytes, pointer_bytes, elements, array_bytes}
-use Rattle.c_machine.specs.Constants.{unary, binary, conditional, cast, size_constant, kind_of, constant_of, bytes_of}
+use Rattle.c_machine.specs.Literals.{kinds_for, first_holding}
+use Rattle.c_machine.specs.Rules.{operate, shift, bytes}
 use Rattle.c_machine.specs.Evaluates as r
 use Rattle.c_machine.specs.Evaluates.{IsConstant, Evaluates, Takes, is_arithmetic, is_comparison, is_shift, is_logic}
 

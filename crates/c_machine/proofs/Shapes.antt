@@ -1,5 +1,5 @@
 -- The constant that an expression is, by what it holds.
-use Rattle.std.proofs.Common.{◌≡◌, ℕ, ap, sym, ◌∙◌}
+use Rattle.std.proofs.Common.{◌≡◌, ℕ, ap}
 use Rattle.c_syntax.specs.declared.expr.Expr.{Expr}
 use Rattle.c_syntax.specs.declared.shapes.exprs.ExprLeaf.{ExprLeaf}
 use Rattle.c_syntax.specs.declared.shapes.exprs.ExprLeaf.TheVariants as leaf

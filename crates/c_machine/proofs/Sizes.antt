@@ -1,5 +1,5 @@
 -- A size that 128 bits don't hold is none that `sizeof` can tell.
-use Rattle.std.proofs.Common.{◌≡◌, ℤ, Option, Some, None, true, false, FitsSigned, refl, sym, ap, ◌∙◌, arith, if◌then◌else◌}
+use Rattle.std.proofs.Common.{◌≡◌, ℤ, Some, None, false, FitsSigned, sym, ap, arith, if◌then◌else◌}
 use Rattle.std.proofs.lemmas.Int.{ints}
 use Rattle.std.proofs.lemmas.Bool.{false_from_ne_true}
 use mir.Syntax.{w128}

@@ -79,7 +79,8 @@ shift m bin.Shr k y z = n.right_shift m k y z
 shift m op k y z = None
 
 abbrev pub shifted : Machdep → BinOp → Constant → Constant → Constant
-shifted m op c d = constant (promote c.kind) (on_both (shift m op (promote c.kind)) (converted m (promote c.kind) c.value) (converted m (promote d.kind) d.value))
+shifted m op c d =
+    constant (promote c.kind) (on_both (shift m op (promote c.kind)) (converted m (promote c.kind) c.value) (converted m (promote d.kind) d.value))
 
 -- ---- operands that are evaluated only where the first one leaves it open (C11 6.5.13, 6.5.14, 6.5.15)
 

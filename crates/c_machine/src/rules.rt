@@ -1,5 +1,5 @@
 // What operators make of constants.
-ghost use Rattle.std.specs.Prelude.{◌≡◌, pos, ◌*ℤ◌};
+ghost use Rattle.std.specs.Prelude.{◌≡◌, pos};
 ghost use Rattle.std.specs.Option.{option_map, option_and_then};
 ghost use Rattle.c_kinds.specs.Numbers as numbers;
 ghost use Rattle.c_machine.specs.Rules as spec;

@@ -1,4 +1,4 @@
-use Rattle.std.proofs.Common.{rules, ◌≡◌, true, ap, sym, ◌∙◌, ◌-ℤ◌, if◌then◌else◌, Some, None}
+use Rattle.std.proofs.Common.{rules, ◌≡◌, true, ap, sym, ◌∙◌, ◌-ℤ◌, if◌then◌else◌, None}
 use Rattle.c_kinds.specs.Numbers.{both_held, result_of, difference}
 use Rattle.c_kinds.proofs.Sizes.{difference_fits, seen_two}
 use Rattle.c_kinds.proofs.arithmetic.difference.Goals as goal

@@ -1,5 +1,5 @@
 use Rattle.std.proofs.Common.{rules, ◌≡◌, true, ap, sym, ◌∙◌, Some, None, if◌then◌else◌}
-use Rattle.std.specs.Prelude.{int_div, int_rem}
+use Rattle.std.specs.Prelude.{int_div}
 use Rattle.c_kinds.specs.Numbers.{has_quotient, quotient}
 use Rattle.c_kinds.proofs.Sizes.{can_divide, seen_two, seen_parts}
 use Rattle.c_kinds.proofs.arithmetic.quotient.Goals as goal

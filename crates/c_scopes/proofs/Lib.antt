@@ -1,0 +1,4 @@
+pub mod Leveling
+pub mod Declaring
+pub mod Types
+pub mod Holding

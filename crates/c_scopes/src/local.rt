@@ -1,0 +1,71 @@
+// The declarations of a function's blocks (C11 6.2.1).
+ghost use Rattle.std.specs.Prelude.{◌≡◌, IfOk, OnOk};
+ghost use Rattle.c_scopes.specs.Declarations as spec;
+
+use crate::file::number_of;
+use crate::symbols::{Object, Symbol};
+use name_table::Scopes;
+use std::alloc::Global;
+use typed_prog::Variable;
+use wp_base::{List, NoMemory};
+
+/// The names of the blocks around a place of a function, and all objects that the function declared so far, its parameters first. Where
+/// memory is lacking in a declaration, this may only be dropped.
+#[derive(Drop)]
+pub struct Local {
+    pub blocks: Scopes<u32>,
+    pub objects: List<Object>,
+    /// The object whose initialiser is being read: it hides its name, and may not be named there.
+    pub initialising: Option<u32>,
+}
+
+impl Local {
+    /// No block and no object.
+    pub fn new(alloc: Global) -> Local
+        ensures { result ≡ spec.no_locals }
+    {
+        Local {
+            blocks: Scopes::new(alloc),
+            objects: List::new(alloc),
+            initialising: None,
+        }
+    }
+
+    /// A block begins. Parameters and the outermost block of a body are one (C11 6.2.1p4).
+    pub fn enter(&mut self, alloc: Global) -> Result<(), NoMemory>
+        ensures { OnOk result (self.new ≡ spec.with_block self.old) }
+    {
+        self.blocks.enter(alloc)
+    }
+
+    /// The innermost block ends.
+    pub fn leave(&mut self)
+        ensures { self.new ≡ spec.without_block self.old }
+    {
+        self.blocks.leave();
+    }
+
+    /// Declares an object in the innermost block, unless its name is declared there; whether it did.
+    pub fn declare(&mut self, alloc: Global, object: Object) -> Result<bool, NoMemory>
+        ensures is_new { IfOk result (λ is_new. is_new ≡ spec.is_free_here self.old object.name) }
+        ensures ok { OnOk result (self.new ≡ spec.with_local self.old object) }
+    {
+        let number = number_of(self.objects.len())?;
+        let is_new = self.blocks.declare(alloc, &object.name, number)?;
+        if is_new {
+            self.objects.push(object)?;
+        }
+        Ok(is_new)
+    }
+
+    /// The symbol of the object with this number; none where its initialiser is being read.
+    pub(crate) fn symbol(&self, number: u32) -> Option<Symbol>
+        ensures { result ≡ spec.local_symbol self.now.initialising number }
+    {
+        let symbol = Symbol::Object(Variable::Local(number));
+        match self.initialising {
+            None => Some(symbol),
+            Some(other) => { if other == number { None } else { Some(symbol) } }
+        }
+    }
+}

@@ -1,0 +1,9 @@
+pub mod Conversions
+pub mod Fitting
+pub mod Keeps
+pub mod Operators
+pub mod Others
+pub mod Outcomes
+pub mod Shifts
+pub mod Small
+pub mod Tests

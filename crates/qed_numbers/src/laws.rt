@@ -1,0 +1,12 @@
+// Laws of the rules, over plain trees.
+ghost use Rattle.qed_numbers.specs.Laws.{NumbersAnswer, NumbersKeepMeaning};
+
+/// A rule keeps the meaning.
+pub fn numbers_keep_meaning()
+    ensures { NumbersKeepMeaning }
+{}
+
+/// A rule answers a number, a kid, or for a shift to the left a number times a kid.
+pub fn numbers_answer()
+    ensures { NumbersAnswer }
+{}

@@ -5,23 +5,31 @@ use Rattle.qed_terms.specs.declared.head.Head.TheVariants as h
 use Rattle.qed_terms.specs.declared.head.TermOp.{TermOp}
 use Rattle.qed_terms.specs.declared.term.Term.{Term}
 use Rattle.qed_terms.specs.declared.term.Term.TheVariants as t
-use Rattle.qed_terms.specs.Tree.{Tree, node, more, trees_of, head_of}
+use Rattle.qed_terms.specs.Tree.{Tree, Trees, node, more, trees_of, head_of}
 use Rattle.qed_terms.specs.Order.{same}
 use Rattle.qed_terms.specs.View.{term_tree}
 use Rattle.qed_terms.proofs.Equations.{term_tree-Op, term_tree-App}
-use Rattle.qed_linear.specs.Linear.{is_integer, Lin, op_form, or_atom, of_lin}
+use Rattle.qed_linear.specs.Linear.{is_integer, Lin, op_form, or_atom, of_lin, unwrap_or}
+use Rattle.qed_numbers.specs.Numbers.{number_step}
 use Rattle.qed_rules.specs.Rules.{then_some, chosen_arm, is_truth_constant}
-use Rattle.qed_rules.specs.Passes.{normal_node, normalise, normalise_all}
+use Rattle.qed_rules.specs.Passes.{linear_term, normal_node, normalise, normalise_all}
 use Rattle.qed_linear.proofs.TermForms.{forms_of, to_lins_of}
 
--- an operator over terms by its form, or where it has none
-op_form_is : (o : TermOp) (ts : List Term) (g : Option Lin) → g ≡ op_form o (forms_of ts) → normal_node (h.Term o) (trees_of (map term_tree ts)) ≡ of_lin (or_atom g (node (h.Term o) (trees_of (map term_tree ts))))
+-- an operator over terms by what the first rule makes of it, and where none changes it
+pub ruled : (o : TermOp) (ts : Trees) (w : Tree) → Some w ≡ number_step (h.Term o) ts → linear_term w ≡ normal_node (h.Term o) ts
+ruled o ts w n = ap (λ p. linear_term (unwrap_or p (node (h.Term o) ts))) n
+
+pub not_ruled : (o : TermOp) (ts : Trees) → None ≡ number_step (h.Term o) ts → linear_term (node (h.Term o) ts) ≡ normal_node (h.Term o) ts
+not_ruled o ts n = ap (λ p. linear_term (unwrap_or p (node (h.Term o) ts))) n
+
+-- by its form, or where it has none
+op_form_is : (o : TermOp) (ts : List Term) (g : Option Lin) → g ≡ op_form o (forms_of ts) → linear_term (node (h.Term o) (trees_of (map term_tree ts))) ≡ of_lin (or_atom g (node (h.Term o) (trees_of (map term_tree ts))))
 op_form_is o ts g k = ap (λ f. of_lin (or_atom f (node (h.Term o) (trees_of (map term_tree ts))))) (ap (op_form o) (to_lins_of ts) ∙ sym k)
 
-pub op_some : (o : TermOp) (ts : List Term) (g : Lin) → Some g ≡ op_form o (forms_of ts) → of_lin g ≡ normal_node (h.Term o) (trees_of (map term_tree ts))
+pub op_some : (o : TermOp) (ts : List Term) (g : Lin) → Some g ≡ op_form o (forms_of ts) → of_lin g ≡ linear_term (node (h.Term o) (trees_of (map term_tree ts)))
 op_some o ts g k = sym (op_form_is o ts (Some g) k)
 
-pub op_none : (o : TermOp) (ts : List Term) → None ≡ op_form o (forms_of ts) → term_tree (t.Op o ts) ≡ normal_node (h.Term o) (trees_of (map term_tree ts))
+pub op_none : (o : TermOp) (ts : List Term) → None ≡ op_form o (forms_of ts) → term_tree (t.Op o ts) ≡ linear_term (node (h.Term o) (trees_of (map term_tree ts)))
 op_none o ts k = term_tree-Op o ts ∙ sym (op_form_is o ts None k)
 
 pub normalise_all_of : (ts : List Term) → normalise_all (trees_of (map term_tree ts)) ≡ trees_of (map (λ t. normalise (term_tree t)) ts)

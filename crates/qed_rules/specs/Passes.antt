@@ -6,6 +6,7 @@ use Rattle.qed_terms.specs.declared.head.TermOp.TheVariants as op
 use Rattle.qed_terms.specs.declared.head.FormOp.TheVariants as rel
 use Rattle.qed_terms.specs.Tree.{Tree, node, Trees, stop, more, list_of, head_of, two, one, three, num, at_most, equal, ite, not_of}
 use Rattle.qed_linear.specs.Linear.{Lin, of_lin, to_lin, checked, subtract, unwrap_or}
+use Rattle.qed_numbers.specs.Numbers.{number_step}
 use Rattle.qed_rules.specs.Rules.{is_formula, chosen_arm, truth_constant, at_most_tree, equal_tree, negated_relation, junction, is_truth_constant, has, is_opposed, flatten, drop_units, drop_repeats}
 
 -- the junction of these; one stands alone, none is the unit
@@ -61,7 +62,7 @@ linear_term t = of_lin (to_lin t)
 -- the normal form of a node over kids in normal form
 abbrev pub normal_node : Head → Trees → Tree
 normal_node (h.Num z) ts = linear_term (node (h.Num z) ts)
-normal_node (h.Term o) ts = linear_term (node (h.Term o) ts)
+normal_node (h.Term o) ts = linear_term (unwrap_or (number_step (h.Term o) ts) (node (h.Term o) ts))
 normal_node h.Ite (more f (more t (more u stop))) = unwrap_or (chosen_arm (head_of f) t u) (ite f t u)
 normal_node (h.Form rel.Less) (more t (more u stop)) = normal_at_most (linear_term (node (h.Term op.Add) (two t (num (pos 1))))) u
 normal_node (h.Form rel.AtMost) (more t (more u stop)) = normal_at_most t u

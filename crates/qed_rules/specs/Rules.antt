@@ -7,10 +7,9 @@ use Rattle.qed_terms.specs.declared.head.FormOp.TheVariants as rel
 use Rattle.qed_terms.specs.Tree.{Tree, node, Trees, stop, more, list_of, head_of, kids_in, two, three, num, true_tree, false_tree, at_most, equal, not_of, and_of, or_of}
 use Rattle.qed_terms.specs.Operators.{is_zero}
 use Rattle.qed_terms.specs.Order.{same}
+pub use Rattle.qed_numbers.specs.Numbers.{Rule, then_some, first_some, first_of_rules}
+use Rattle.qed_numbers.specs.Numbers.{division_rule, divisor_one_rule, divisor_zero_rule, dividend_zero_rule, conversion_rule, second_conversion_rule, left_shift_rule, right_shift_zero_rule, right_shift_rule, bits_rule, bits_zero_rule}
 use Rattle.qed_linear.specs.Linear.{Lin, of_lin, number, is_number, subtract, checked, head_form, to_lin, to_lins, is_integer, common_divisor, divides, tighten, divide_exact, make_lead_positive}
-
-abbrev pub Rule : Type 0
-Rule = Head → Trees → Option Tree
 
 -- the heads of formulas; a formula may stand in for a node that is one
 abbrev pub is_formula : Head → Bool
@@ -20,11 +19,6 @@ is_formula (h.Term o) = false
 is_formula h.Ite = false
 is_formula (h.App f) = false
 is_formula head = true
-
--- the tree, where the test is so
-abbrev pub then_some : Bool → Tree → Option Tree
-then_some true t = Some t
-then_some false t = None
 
 -- the tree, unless it is the other one
 abbrev pub unless_same : Tree → Tree → Option Tree
@@ -216,16 +210,11 @@ at_junctions rule head ts = None
 
 abbrev pub table : List Rule
 table =
-    sums_rule ∷ choice_rule ∷ less_rule ∷ at_most_rule ∷ equality_rule ∷ implication_rule ∷ equivalence_rule ∷ negation_rule
+    sums_rule
+    ∷ division_rule ∷ divisor_one_rule ∷ divisor_zero_rule ∷ dividend_zero_rule ∷ conversion_rule ∷ second_conversion_rule
+    ∷ left_shift_rule ∷ right_shift_zero_rule ∷ right_shift_rule ∷ bits_rule ∷ bits_zero_rule
+    ∷ choice_rule ∷ less_rule ∷ at_most_rule ∷ equality_rule ∷ implication_rule ∷ equivalence_rule ∷ negation_rule
     ∷ at_junctions flat_rule ∷ at_junctions absorbing_rule ∷ at_junctions units_rule ∷ at_junctions repeats_rule ∷ at_junctions opposites_rule ∷ at_junctions single_rule ∷ []
-
-abbrev pub first_some : {A : Type 0} → Option A → Option A → Option A
-first_some (Some a) o = Some a
-first_some None o = o
-
-abbrev pub first_of_rules : List Rule → Rule
-first_of_rules [] head ts = None
-first_of_rules (r ∷ rs) head ts = first_some (r head ts) (first_of_rules rs head ts)
 
 -- what the first rule that changes a node makes of it
 abbrev pub step : Tree → Option Tree

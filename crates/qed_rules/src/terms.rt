@@ -1,26 +1,45 @@
 // Terms over kids that are in normal form.
 ghost use Rattle.std.specs.Prelude.{◌≡◌, map, option_map, IfOk};
-ghost use Rattle.qed_terms.specs.Tree.{head_of, three, trees_of};
+ghost use Rattle.qed_terms.specs.Tree.{head_of, node, three, trees_of};
 ghost use Rattle.qed_terms.specs.View.{formula_tree, term_tree};
 ghost use Rattle.qed_terms.specs.declared.head.Head.TheVariants as h;
 ghost use Rattle.qed_linear.specs.Linear.{is_integer};
 ghost use Rattle.qed_rules.specs.Rules.{then_some, chosen_arm};
-ghost use Rattle.qed_rules.specs.Passes.{normal_node};
+ghost use Rattle.qed_rules.specs.Passes.{linear_term, normal_node};
 
 use crate::constants::is_truth_constant;
-use qed_linear::{is_integer, of_lin, op_form};
+use qed_linear::{is_integer, of_lin, op_form, to_lin};
+use qed_numbers::number_step;
 use qed_terms::{Formula, Term, TermOp};
 use std::alloc::Global;
 use wp_base::{List, NoMemory};
 
-/// The normal form of an operator over terms that are in normal form.
+// The term of the form of a term.
+fn linear_term(alloc: Global, term: &Term) -> Result<Term, NoMemory>
+    ensures { IfOk result (λ linear. term_tree linear ≡ linear_term (term_tree term.now)) }
+{
+    of_lin(alloc, to_lin(alloc, term)?)
+}
+
+// An operator over terms that no rule on numbers changes.
 #[tactic(auto, using(qed_terms::proofs::Equations::tree_laws))]
-pub fn normal_op(alloc: Global, op: TermOp, kids: List<Term>) -> Result<Term, NoMemory>
-    ensures { IfOk result (λ normal. term_tree normal ≡ normal_node (h.Term op) (trees_of (map term_tree kids))) }
+fn by_form(alloc: Global, op: TermOp, kids: List<Term>) -> Result<Term, NoMemory>
+    ensures { IfOk result (λ linear. term_tree linear ≡ linear_term (node (h.Term op) (trees_of (map term_tree kids)))) }
 {
     match op_form(alloc, &op, &kids)? {
         Some(form) => of_lin(alloc, form),
         None => Ok(Term::Op(op, kids)),
+    }
+}
+
+/// The normal form of an operator over terms that are in normal form.
+#[tactic(auto, using(crate::proofs::TermPasses::ruled, crate::proofs::TermPasses::not_ruled))]
+pub fn normal_op(alloc: Global, op: TermOp, kids: List<Term>) -> Result<Term, NoMemory>
+    ensures { IfOk result (λ normal. term_tree normal ≡ normal_node (h.Term op) (trees_of (map term_tree kids))) }
+{
+    match number_step(alloc, &op, kids.as_slice())? {
+        Some(term) => linear_term(alloc, &term),
+        None => by_form(alloc, op, kids),
     }
 }
 

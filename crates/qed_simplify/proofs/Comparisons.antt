@@ -1,5 +1,5 @@
 -- Comparisons of a difference with 0.
-use Rattle.std.proofs.Common.{◌≡◌, zero, suc, ◌+◌, ◌-◌, ◌≤◌, ◌<◌, Bool, true, false, not, int_le, int_lt, ◌≤ℤ◌, ◌<ℤ◌, ℤ, pos, negsuc, ◌+ℤ◌, ◌-ℤ◌, refl, ap, arith}
+use Rattle.std.proofs.Common.{◌≡◌, zero, suc, Bool, true, false, not, int_le, int_lt, ◌≤ℤ◌, ◌<ℤ◌, ℤ, pos, negsuc, ◌+ℤ◌, ◌-ℤ◌, refl, ap, arith}
 use Rattle.std.proofs.lemmas.Int.{ints}
 use Rattle.qed_terms.specs.Operators.{is_zero}
 use Rattle.qed_linear.proofs.Rounding.{same_le, lt_test, lt_fact, le_test, le_fact, same_tests}

@@ -13,7 +13,9 @@ use Rattle.qed_terms.specs.Meaning.{World, Values, with_int, Value, Whole, Truth
 use Rattle.qed_terms.proofs.Lists.{trees_of-list_of}
 use Rattle.qed_terms.specs.Order.{same}
 use Rattle.qed_linear.specs.Linear.{fits, Part, Lin, lin, number, is_number, part_tree, sum_tree, of_lin, subtract, is_integer, parts_fit, checked, head_form, to_lin, to_lins, common_divisor, divides, tighten, divide_exact, make_lead_positive}
-use Rattle.qed_rules.specs.Rules.{Rule, is_formula, unless_same, changed, sums_rule, chosen_arm, choice_rule, truth_constant, at_most_zero, equals_zero, at_most_tree, equal_tree, less_rule, at_most_rule, equality_rule, implication_rule, equivalence_rule, nots, negated_relation, inward, negation_rule, junction, is_junction, is_truth_constant, has, among, among_some, flatten, drop_units, has_repeat, drop_repeats, is_opposed, flat_rule, absorbing_rule, units_rule, repeats_rule, opposites_rule, single_rule, at_junctions, first_of_rules, table, step}
+use Rattle.qed_rules.specs.Rules.{Rule, is_formula, unless_same, changed, sums_rule, chosen_arm, choice_rule, truth_constant, at_most_zero, equals_zero, at_most_tree, equal_tree, less_rule, at_most_rule, equality_rule, implication_rule, equivalence_rule, nots, negated_relation, inward, negation_rule, junction, is_junction, is_truth_constant, has, among, among_some, flatten, drop_units, has_repeat, drop_repeats, is_opposed, flat_rule, absorbing_rule, units_rule, repeats_rule, opposites_rule, single_rule, at_junctions, first_of_rules, step}
+use Rattle.qed_numbers.specs.Numbers.{number_step}
+use Rattle.qed_numbers.proofs.Keeps.{numbers_keep}
 use Rattle.qed_linear.proofs.Facts.{and_left, and_right}
 use Rattle.qed_simplify.proofs.Tests.{or_either, then_some_is, either}
 use Rattle.qed_terms.proofs.Total.{same_exact}
@@ -431,31 +433,42 @@ module _ (world : World) (env : Values) where
     | inr e ↦ first_keeps rs a.1 head ts w f e
   ]
 
-  pub step_keeps : (head : Head) (ts : Trees) (w : Tree) → AllFixed step ts → step (node head ts) ≡ Some w → M w ≡ M (node head ts)
-  step_keeps head ts w f k =
-      first_keeps table (
-        keeps_sums,
+  -- the rules that aren't on numbers alone
+  abbrev other_rules : List Rule
+  other_rules =
+      sums_rule ∷ choice_rule ∷ less_rule ∷ at_most_rule ∷ equality_rule ∷ implication_rule ∷ equivalence_rule ∷ negation_rule
+      ∷ at_junctions flat_rule ∷ at_junctions absorbing_rule ∷ at_junctions units_rule ∷ at_junctions repeats_rule ∷ at_junctions opposites_rule ∷ at_junctions single_rule ∷ []
+
+  others_keep : AllKeep other_rules
+  others_keep = (
+    keeps_sums,
+    (
+      keeps_arm,
+      (
+        keeps_less,
         (
-          keeps_arm,
+          keeps_at_most,
           (
-            keeps_less,
+            keeps_equal,
             (
-              keeps_at_most,
+              keeps_imp,
               (
-                keeps_equal,
+                keeps_iff,
                 (
-                  keeps_imp,
-                  (
-                    keeps_iff,
-                    (
-                      keeps_not,
-                      (at_junctions_keep flat_rule keeps_flat, (at_junctions_keep absorbing_rule keeps_absorb, (at_junctions_keep units_rule keeps_units, (at_junctions_keep repeats_rule keeps_repeats, (at_junctions_keep opposites_rule keeps_oppose, (at_junctions_keep single_rule keeps_single, tt)))))),
-                    ),
-                  ),
+                  keeps_not,
+                  (at_junctions_keep flat_rule keeps_flat, (at_junctions_keep absorbing_rule keeps_absorb, (at_junctions_keep units_rule keeps_units, (at_junctions_keep repeats_rule keeps_repeats, (at_junctions_keep opposites_rule keeps_oppose, (at_junctions_keep single_rule keeps_single, tt)))))),
                 ),
               ),
             ),
           ),
         ),
-      )
-      head ts w f k
+      ),
+    ),
+  )
+
+  pub step_keeps : (head : Head) (ts : Trees) (w : Tree) → AllFixed step ts → step (node head ts) ≡ Some w → M w ≡ M (node head ts)
+  step_keeps (h.Term o) ts w f k = elim (either (sums_rule (h.Term o) ts) (number_step (h.Term o) ts) w k) [
+    | inl e ↦ keeps_sums (h.Term o) ts w f e
+    | inr e ↦ numbers_keep o ts w e world env
+  ]
+  step_keeps head ts w f k = first_keeps other_rules others_keep head ts w f k

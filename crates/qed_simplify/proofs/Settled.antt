@@ -8,12 +8,17 @@ use Rattle.qed_terms.specs.declared.head.TermOp.TheVariants as op
 use Rattle.qed_terms.specs.Tree.{Tree, node, Trees, stop, more, trees_of, head_of, two, num}
 use Rattle.qed_terms.specs.Operators.{is_zero, is_equal}
 use Rattle.qed_terms.specs.Order.{same}
-use Rattle.qed_linear.specs.Linear.{fits, Part, Lin, part, lin, number, atom_lin, part_tree, constant_trees, sum_tree, of_lin, add_all, is_integer, parts_fit, checked, op_form, head_form, or_atom, to_lin, to_lins}
+use Rattle.qed_linear.specs.Linear.{fits, Part, Lin, part, lin, number, atom_lin, part_tree, constant_trees, sum_tree, of_lin, add_all, is_integer, parts_fit, checked, op_form, head_form, or_atom, to_lin, to_lins, unwrap_or}
+use Rattle.qed_numbers.specs.Numbers.{times_number, number_step}
+use Rattle.qed_numbers.specs.Laws.{IsKid, Outcome}
+use Rattle.qed_numbers.proofs.Outcomes.{numbers_answer}
+use Rattle.qed_rules.specs.Passes.{normal_node}
+use Rattle.qed_simplify.proofs.Tests.{first_none}
 use Rattle.qed_rules.specs.Rules.{unless_same, changed, sums_rule, first_some, step}
 use Rattle.qed_simplify.specs.Normal.{Normal, Normals, stays, changes, nothing, each}
 use Rattle.qed_linear.proofs.Facts.{and_left, and_right, zero_is, equal_is}
 use Rattle.qed_terms.proofs.Total.{same_itself, same_exact}
-use Rattle.qed_simplify.proofs.Derived.{Fixed, AllFixed, fixed-normal}
+use Rattle.qed_simplify.proofs.Derived.{Fixed, AllFixed, fixed-normal, fixed-normals, normal-fixed}
 use Rattle.qed_linear.proofs.Canonical.{PartsOver, FormOver, FormsOver, head_form_canonical, add_all_back, product_is, checked_is, num_form, last_forms, single, fits_zero}
 
 -- ---- parts in order, over atoms in normal form
@@ -177,8 +182,62 @@ at_form head ts f ks e = go (head_form head (to_lins ts)) refl
     go None k = stays ks (e ∙ ap (λ o. first_some (changed of_lin o (node head ts)) None) k)
     go (Some g) k = reach head ts (of_lin g) ks (e ∙ ap (λ o. first_some (changed of_lin o (node head ts)) None) k) (lin_settled g (head_form_canonical IsAtom head (to_lins ts) g (to_lins_canonical ts f) k)).1
 
-pub term_normal : (o : TermOp) (ts : Trees) → AllFixed step ts → Normals step ts ts → Normal step (node (h.Term o) ts) (of_lin (to_lin (node (h.Term o) ts)))
-term_normal o ts f ks = at_form (h.Term o) ts f ks refl
+pub term_normal : (o : TermOp) (ts : Trees) → AllFixed step ts → Normals step ts ts → number_step (h.Term o) ts ≡ None → Normal step (node (h.Term o) ts) (of_lin (to_lin (node (h.Term o) ts)))
+term_normal o ts f ks n = at_form (h.Term o) ts f ks (ap (first_some (sums_rule (h.Term o) ts)) n)
 
 pub number_normal : (z : ℤ) (ts : Trees) → AllFixed step ts → Normals step ts ts → Normal step (node (h.Num z) ts) (of_lin (to_lin (node (h.Num z) ts)))
 number_normal z ts f ks = at_form (h.Num z) ts f ks refl
+
+-- a tree that no rule changes is the term of its form
+pub fixed_back : (t : Tree) → Fixed step t → of_lin (to_lin t) ≡ t
+fixed_back (node head ts) f = go (head_form head (to_lins ts)) refl
+  where
+    go : (o : Option Lin) → head_form head (to_lins ts) ≡ o → of_lin (or_atom o (node head ts)) ≡ node head ts
+    go None e = refl
+    go (Some g) e = none_unless_same (of_lin g) (node head ts) (ap (λ o. changed of_lin o (node head ts)) (sym e) ∙ first_none (sums_rule head ts) _ f.1)
+
+-- ---- an operator that a rule on numbers changes
+
+-- it has no form of its own
+no_form : (o : TermOp) (ts : Trees) (fs : List Lin) (w : Tree) → number_step (h.Term o) ts ≡ Some w → op_form o fs ≡ None
+no_form op.Add ts fs w k = absurd cc
+no_form op.Sub ts fs w k = absurd cc
+no_form op.Mul ts fs w k = absurd cc
+no_form op.Neg ts fs w k = absurd cc
+no_form o ts fs w k = refl
+
+kid_fixed : (t : Tree) (ts : Trees) → IsKid t ts → AllFixed step ts → Fixed step t
+kid_fixed t stop k f = absurd k
+kid_fixed t (more u ts) k f = elim k [
+  | inl e ↦ subst (Fixed step) (sym e) f.0
+  | inr e ↦ kid_fixed t ts e f.1
+]
+
+kid_normal : (t : Tree) → Fixed step t → Normal step t (of_lin (to_lin t))
+kid_normal t f = subst (Normal step t) (sym (fixed_back t f)) (fixed-normal step t f)
+
+product_normal : (p : ℤ) (t : Tree) → Fixed step t → Normal step (times_number p t) (of_lin (to_lin (times_number p t)))
+product_normal p t f =
+    let known : AllFixed step (two (num p) t) = (normal-fixed step (num_normal p), (f, tt)) in
+    term_normal op.Mul (two (num p) t) known (fixed-normals step (two (num p) t) known) refl
+
+outcome_normal : (o : TermOp) (ts : Trees) (w : Tree) → AllFixed step ts → Outcome o ts w → Normal step w (of_lin (to_lin w))
+outcome_normal o ts w f a = elim a [
+  | inl n ↦ subst (λ t. Normal step t (of_lin (to_lin t))) (sym n.1) (number_normal n.0 stop tt nothing)
+  | inr b ↦ elim b [
+    | inl k ↦ kid_normal w (kid_fixed w ts k f)
+    | inr p ↦ subst (λ t. Normal step t (of_lin (to_lin t))) (sym p.1.1.1.1) (product_normal p.1.0 p.1.1.0 (kid_fixed p.1.1.0 ts p.1.1.1.0 f))
+  ]
+]
+
+pub op_normal : (o : TermOp) (ts : Trees) → AllFixed step ts → Normal step (node (h.Term o) ts) (normal_node (h.Term o) ts)
+op_normal o ts f = go (number_step (h.Term o) ts) refl
+  where
+    ks : Normals step ts ts
+    ks = fixed-normals step ts f
+
+    go : (p : Option Tree) → number_step (h.Term o) ts ≡ p → Normal step (node (h.Term o) ts) (of_lin (to_lin (unwrap_or p (node (h.Term o) ts))))
+    go None e = term_normal o ts f ks e
+    go (Some w) e =
+        let none = no_form o ts (to_lins ts) w e in
+        changes ks (ap (λ g. first_some (changed of_lin g (node (h.Term o) ts)) (number_step (h.Term o) ts)) none ∙ e) (outcome_normal o ts w f (numbers_answer o ts w e))

@@ -1,12 +1,7 @@
 -- Truth values under and and or, and under quantifiers.
 use Rattle.std.proofs.Common.{◌≡◌, ℕ, zero, suc, Bool, true, false, not, ◌&&◌, ◌||◌, ℤ, pos, ◌+ℤ◌, refl, sym, ◌∙◌, ap}
-use Rattle.qed_terms.specs.declared.head.Head.TheVariants as h
-use Rattle.qed_terms.specs.declared.head.TermOp.TheVariants as op
-use Rattle.qed_terms.specs.declared.head.FormOp.TheVariants as rel
-use Rattle.qed_terms.specs.declared.head.Sort.TheVariants as sort
 use Rattle.wp_base.specs.Blocks.{same_truth}
-use Rattle.qed_terms.specs.Meaning.{truth, all_from, some_from}
-use Rattle.qed_linear.specs.Linear.{number}
+use Rattle.qed_terms.specs.Meaning.{all_from, some_from}
 
 -- ---- truth values
 

@@ -15,7 +15,7 @@ use Rattle.qed_simplify.specs.Normal.{Normal, Normals, stays, changes, nothing, 
 use Rattle.qed_rules.specs.Passes.{normal_junction, normal_not, normal_nots, linear_term, normal_node, normalise, normalise_all}
 use Rattle.qed_simplify.proofs.Tests.{then_some_is}
 use Rattle.qed_simplify.proofs.Derived.{Fixed, AllFixed, fixed-normal, fixed-normals, normal-fixed, normals-fixed, over_kids}
-use Rattle.qed_simplify.proofs.Settled.{num_normal, term_normal, number_normal}
+use Rattle.qed_simplify.proofs.Settled.{num_normal, op_normal, number_normal}
 use Rattle.qed_simplify.proofs.Relations.{truth_normal, at_most_normal, equal_normal, negated_relation_normal}
 use Rattle.qed_simplify.proofs.Junctions.{EachFixed, each_fixed, junction_normal}
 
@@ -94,12 +94,12 @@ ite_normal c t u f = go (chosen_arm (head_of c) t u) refl
 
 pub node_normal : (head : Head) (us : Trees) → AllFixed step us → Normal step (node head us) (normal_node head us)
 node_normal (h.Num z) us f = number_normal z us f (fixed-normals step us f)
-node_normal (h.Term o) us f = term_normal o us f (fixed-normals step us f)
+node_normal (h.Term o) us f = op_normal o us f
 node_normal h.Ite (more c (more t (more u stop))) f = ite_normal c t u f
 node_normal (h.Form rel.Less) (more t (more u stop)) f =
     let one_more = two t (num (pos 1)) in
     let known : AllFixed step one_more = (f.0, (normal-fixed step (num_normal (pos 1)), tt)) in
-    let s = term_normal op.Add one_more known (fixed-normals step one_more known) in
+    let s = op_normal op.Add one_more known in
     let k = fixed-normal step u f.1.0 in
     changes (fixed-normals step (two t u) f) refl (over_kids step (each s (each k nothing)) (at_most_normal (linear_term (node (h.Term op.Add) one_more)) u (normal-fixed step s) f.1.0))
 node_normal (h.Form rel.AtMost) (more t (more u stop)) f = at_most_normal t u f.0 f.1.0

@@ -2,6 +2,8 @@ pub mod Built
 pub mod Canonical
 pub mod Divisors
 pub mod Facts
+pub mod Fitting
+pub mod OwnForms
 pub mod Places
 pub mod Ring
 pub mod Rounding

@@ -210,7 +210,7 @@ narrow_done ls ws all c d h e k f g =
 
 -- ---- a form times a number
 
-scale_append : (c : ℤ) (ps qs : List Part) → scale_parts c (ps ++ qs) ≡ scale_parts c ps ++ scale_parts c qs
+pub scale_append : (c : ℤ) (ps qs : List Part) → scale_parts c (ps ++ qs) ≡ scale_parts c ps ++ scale_parts c qs
 scale_append c [] qs = refl
 scale_append c (p ∷ ps) qs = ap (λ rs. part (p.atom) (c *ℤ p.times) ∷ rs) (scale_append c ps qs)
 
@@ -220,7 +220,7 @@ scale_more c ls ls' xs i x a d k p e f h g =
     g ∙ (λ j. h j ++ part (e j) (f j) ∷ []) ∙ sym (scale_append c (parts_of (take i xs)) (part_of x ∷ []))
     ∙ ap (scale_parts c) (sym (map_append part_of (take i xs) (x ∷ []))) ∙ ap (λ ys. scale_parts c (parts_of ys)) (sym (take_one xs i x k p))
 
-scale_is : (c : ℤ) (f : Lin) → (c ≡ pos 0 → ⊥) → scale c f ≡ lin (scale_parts c (f.parts)) (c *ℤ f.constant)
+pub scale_is : (c : ℤ) (f : Lin) → (c ≡ pos 0 → ⊥) → scale c f ≡ lin (scale_parts c (f.parts)) (c *ℤ f.constant)
 scale_is c f n = go (is_zero c) refl
   where
     go : (b : Bool) → is_zero c ≡ b → cond b (number (pos 0)) (lin (scale_parts c (f.parts)) (c *ℤ f.constant)) ≡ lin (scale_parts c (f.parts)) (c *ℤ f.constant)

@@ -145,6 +145,29 @@ abbrev mutual
   to_lins stop = []
   to_lins (more t ts) = to_lin t ∷ to_lins ts
 
+-- ---- forms whose numbers fit, whatever their atoms are
+
+abbrev pub numbers_fit : List Part → Bool
+numbers_fit [] = true
+numbers_fit (p ∷ ps) = fits (p.times) && numbers_fit ps
+
+-- the form, where all its numbers fit
+abbrev pub fitting : Lin → Option Lin
+fitting f = if numbers_fit (f.parts) && fits (f.constant) then Some f else None
+
+-- the heads of sums, differences, products and numbers, which have a form of their own where it fits
+abbrev pub is_linear : Head → Bool
+is_linear (h.Num z) = true
+is_linear (h.Term op.Add) = true
+is_linear (h.Term op.Sub) = true
+is_linear (h.Term op.Mul) = true
+is_linear (h.Term op.Neg) = true
+is_linear head = false
+
+-- the form of a term, where it fits; any other term than these is an atom
+abbrev pub own_form : Tree → Option Lin
+own_form (node head ts) = if is_linear head then head_form head (to_lins ts) else Some (atom_lin (node head ts))
+
 -- ---- the common divisor of the coefficients
 
 -- Euclid's steps, at most so many; each remainder is below the one before

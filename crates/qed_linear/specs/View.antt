@@ -1,12 +1,15 @@
 -- The forms and the sums that the program holds, as plain ones.
-use Rattle.std.specs.Prelude.{◌≡◌, ℕ, ◌+◌, slice_index_or, Bool, true, false, ℤ, pos, negsuc, ◌+ℤ◌, ◌*ℤ◌, List, ◌++◌, map, take, drop}
+use Rattle.std.specs.Prelude.{◌≡◌, ℕ, ◌+◌, slice_index_or, Bool, true, false, ℤ, pos, negsuc, ◌+ℤ◌, ◌*ℤ◌, if◌then◌else◌, List, [], ◌∷◌, ◌++◌, map, take, drop, option_map, Option, Some, None, Result, Ok, Err}
 use Rattle.qed_terms.specs.View.{term_tree}
 use Rattle.qed_linear.specs.declared.wide.Wide.{Wide}
 use Rattle.qed_linear.specs.declared.forms.LinPart.{LinPart}
 use Rattle.qed_linear.specs.declared.forms.LinForm.{LinForm}
+use Rattle.qed_linear.specs.declared.forms.LinEnd.{LinEnd}
+use Rattle.qed_linear.specs.declared.forms.LinEnd.TheVariants as end
+use Rattle.wp_base.specs.declared.memory.NoMemory.{NoMemory}
 use Rattle.qed_linear.specs.declared.sums.WidePart.{WidePart}
 use Rattle.qed_linear.specs.declared.sums.WideForm.{WideForm}
-use Rattle.qed_linear.specs.Linear.{Part, Lin, part, lin, cons_nonzero, scale}
+use Rattle.qed_linear.specs.Linear.{fits, Part, Lin, part, lin, cons_nonzero, scale}
 
 abbrev pub part_of : LinPart → Part
 part_of p = part (term_tree p.atom) p.times
@@ -29,6 +32,25 @@ wide_parts ps = map wide_part ps
 
 abbrev pub wide_lin : WideForm → Lin
 wide_lin f = lin (wide_parts f.parts.items) (wide_value f.constant)
+
+-- a form, or that it doesn't fit; or memory ran out
+abbrev pub IsForm : Result LinForm LinEnd → Option Lin → Type 0
+IsForm (Ok f) o = Some (lin_of f) ≡ o
+IsForm (Err end.TooWide) o = None ≡ o
+IsForm (Err end.NoMemory) o = Unit {0}
+
+-- the same answer, with a form that doesn't fit as an end
+abbrev pub IsEnded : Result (Option LinForm) NoMemory → Result LinForm LinEnd → Type 0
+IsEnded (Ok o) r = IsForm r (option_map lin_of o)
+IsEnded (Err e) r = r ≡ Err end.NoMemory
+
+-- a number times another, where that fits, else itself; and the coefficients of parts times a number
+abbrev pub multiple : ℤ → ℤ → ℤ
+multiple c z = if fits (c *ℤ z) then c *ℤ z else z
+
+abbrev pub multiples : ℤ → List Part → List Part
+multiples c [] = []
+multiples c (p ∷ ps) = part (p.atom) (multiple c (p.times)) ∷ multiples c ps
 
 -- a number, or its negative
 abbrev pub signed_value : Bool → ℤ → ℤ

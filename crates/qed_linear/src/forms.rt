@@ -4,7 +4,7 @@ ghost use Rattle.qed_terms.specs.Tree.{head_of};
 ghost use Rattle.qed_terms.specs.View.{term_tree};
 ghost use Rattle.qed_terms.specs.declared.head.Head.TheVariants as h;
 ghost use Rattle.qed_linear.specs.Linear.{is_integer, number, atom_lin};
-ghost use Rattle.qed_linear.specs.View.{lin_of};
+ghost use Rattle.qed_linear.specs.View.{lin_of, IsEnded};
 
 use qed_terms::{Sort, Term, TermOp};
 use std::alloc::Global;
@@ -64,6 +64,24 @@ pub struct LinPart {
 pub struct LinForm {
     pub parts: Vec<LinPart>,
     pub constant: i128,
+}
+
+/// Why there is no form: a number in it doesn't fit 128 bits, or memory ran out.
+#[derive(Clone, Copy, Debug, PartialEq, Eq)]
+pub enum LinEnd {
+    TooWide,
+    NoMemory,
+}
+
+/// The form that was made, or why there is none.
+pub fn ended(made: Result<Option<LinForm>, NoMemory>) -> Result<LinForm, LinEnd>
+    ensures { IsEnded made result }
+{
+    match made {
+        Ok(Some(form)) => Ok(form),
+        Ok(None) => Err(LinEnd::TooWide),
+        Err(NoMemory) => Err(LinEnd::NoMemory),
+    }
 }
 
 /// The form of a number.

@@ -1,7 +1,7 @@
 // Sums of linear forms, with numbers of any size on the way.
 ghost use Rattle.std.specs.Prelude.{◌≡◌, ◌+◌, ◌<◌, ◌≤◌, Bool, pos, negsuc, ◌+ℤ◌, List, ◌∷◌, ◌++◌, [], map, length, take, drop, get_or, option_map, IfOk, OnOk};
 ghost use Rattle.qed_terms.specs.View.{term_tree};
-ghost use Rattle.qed_linear.specs.Linear.{part, number, add, subtract, add_all, cons_nonzero, add_part, add_parts, scale, checked};
+ghost use Rattle.qed_linear.specs.Linear.{part, number, add, subtract, add_all, cons_nonzero, add_part, add_parts, scale, checked, fitting};
 ghost use Rattle.qed_linear.specs.View.{lin_of, parts_of, signed, signed_value, IsAddedAt, wide_value, wide_parts, wide_lin};
 
 use crate::forms::{LinForm, LinPart, is_integer, number};
@@ -139,6 +139,36 @@ fn narrow(alloc: Global, sum: WideForm) -> Result<Option<LinForm>, NoMemory>
     }
 }
 
+// The form, where its numbers fit.
+fn fitting(alloc: Global, sum: WideForm) -> Result<Option<LinForm>, NoMemory>
+    ensures { IfOk result (λ form. option_map lin_of form ≡ fitting (wide_lin sum)) }
+{
+    let mut parts = Vec::new(alloc);
+    for part in sum.parts {
+        match part.times.narrow() {
+            Some(times) => push_part(&mut parts, part.atom, times)?,
+            None => return Ok(None),
+        }
+    }
+    match sum.constant.narrow() {
+        Some(constant) => Ok(Some(LinForm { parts, constant })),
+        None => Ok(None),
+    }
+}
+
+/// The sum of two forms, where its numbers fit.
+pub fn fitting_sum(
+    alloc: Global,
+    left: &LinForm,
+    right: &LinForm,
+) -> Result<Option<LinForm>, NoMemory>
+    ensures { IfOk result (λ form. option_map lin_of form ≡ fitting (add (lin_of left.now) (lin_of right.now))) }
+{
+    let sum = widen_form(alloc, right, false)?;
+    let sum = add_form(alloc, sum, left)?;
+    fitting(alloc, sum)
+}
+
 /// The sum of forms, where its atoms are integers and its numbers fit.
 pub fn add_all(alloc: Global, forms: &[LinForm]) -> Result<Option<LinForm>, NoMemory>
     ensures { IfOk result (λ form. option_map lin_of form ≡ checked (add_all (map lin_of forms.now))) }
@@ -173,7 +203,7 @@ pub fn negate(alloc: Global, form: &LinForm) -> Result<Option<LinForm>, NoMemory
 }
 
 /// The form times a number, where its numbers fit.
-pub fn scale(alloc: Global, by: i128, form: &LinForm) -> Result<Option<LinForm>, NoMemory>
+pub fn scaled(alloc: Global, by: i128, form: &LinForm) -> Result<Option<LinForm>, NoMemory>
     ensures { IfOk result (λ product. option_map lin_of product ≡ checked (scale by (lin_of form.now))) }
 {
     if by == 0 {

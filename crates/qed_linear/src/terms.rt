@@ -1,12 +1,13 @@
 // The form of a term, and the term of a form.
 ghost use Rattle.std.specs.Prelude.{◌≡◌, map, option_map, IfOk};
 ghost use Rattle.qed_terms.specs.View.{term_tree};
+ghost use Rattle.qed_terms.specs.declared.head.Head.TheVariants as h;
 ghost use Rattle.qed_terms.specs.declared.head.TermOp.TheVariants as op;
-ghost use Rattle.qed_linear.specs.Linear.{part_tree, sum_tree, of_lin, product_form, op_form, to_lin};
+ghost use Rattle.qed_linear.specs.Linear.{part_tree, sum_tree, of_lin, product_form, op_form, to_lin, is_linear, own_form};
 ghost use Rattle.qed_linear.specs.View.{part_of, parts_of, lin_of};
 
 use crate::forms::{LinForm, LinPart, atom, number};
-use crate::sums::{add_all, negate, scale, subtract};
+use crate::sums::{add_all, negate, scaled, subtract};
 use qed_terms::{Term, TermOp};
 use std::alloc::Global;
 use wp_base::{List, NoMemory};
@@ -46,8 +47,8 @@ fn sum_of(mut terms: Vec<Term>) -> Term
     }
 }
 
-/// The parts, then the constant.
-pub fn of_lin(alloc: Global, form: LinForm) -> Result<Term, NoMemory>
+/// The term of a form: its parts, then the constant.
+pub fn into_term(alloc: Global, form: LinForm) -> Result<Term, NoMemory>
     ensures { IfOk result (λ term. term_tree term ≡ of_lin (lin_of form)) }
 {
     let mut terms = terms_of_parts(alloc, form.parts)?;
@@ -72,10 +73,10 @@ fn product_form(alloc: Global, left: &LinForm, right: &LinForm) -> Result<Option
     ensures { IfOk result (λ form. option_map lin_of form ≡ product_form (lin_of left.now) (lin_of right.now)) }
 {
     if left.parts.is_empty() {
-        return scale(alloc, left.constant, right);
+        return scaled(alloc, left.constant, right);
     }
     if right.parts.is_empty() {
-        return scale(alloc, right.constant, left);
+        return scaled(alloc, right.constant, left);
     }
     Ok(None)
 }
@@ -101,25 +102,25 @@ fn neg_form(alloc: Global, forms: &[LinForm]) -> Result<Option<LinForm>, NoMemor
 // ---- the form of a term
 
 /// The form that an operator makes of its kids, where there is one.
-#[cycle(to_lin)]
+#[cycle(form_of)]
 pub fn op_form(alloc: Global, op: &TermOp, kids: &List<Term>) -> Result<Option<LinForm>, NoMemory>
     ensures { IfOk result (λ form. option_map lin_of form ≡ op_form op.now (map (λ t. to_lin (term_tree t)) kids.now)) }
 {
     match op {
         TermOp::Add => {
-            let forms = to_lins(alloc, kids)?;
+            let forms = forms_of(alloc, kids)?;
             add_all(alloc, forms.as_slice())
         }
         TermOp::Sub => {
-            let forms = to_lins(alloc, kids)?;
+            let forms = forms_of(alloc, kids)?;
             sub_form(alloc, forms.as_slice())
         }
         TermOp::Mul => {
-            let forms = to_lins(alloc, kids)?;
+            let forms = forms_of(alloc, kids)?;
             mul_form(alloc, forms.as_slice())
         }
         TermOp::Neg => {
-            let forms = to_lins(alloc, kids)?;
+            let forms = forms_of(alloc, kids)?;
             neg_form(alloc, forms.as_slice())
         }
         TermOp::Div
@@ -140,10 +141,10 @@ pub fn op_form(alloc: Global, op: &TermOp, kids: &List<Term>) -> Result<Option<L
     }
 }
 
-/// The form of a term.
-#[cycle(to_lin)]
+/// The form of a term; a term that has none of its own is an atom.
+#[cycle(form_of)]
 #[tactic(auto, using(qed_terms::proofs::Equations::tree_laws))]
-pub fn to_lin(alloc: Global, term: &Term) -> Result<LinForm, NoMemory>
+pub fn form_of(alloc: Global, term: &Term) -> Result<LinForm, NoMemory>
     ensures { IfOk result (λ form. lin_of form ≡ to_lin (term_tree term.now)) }
 {
     match term {
@@ -158,13 +159,57 @@ pub fn to_lin(alloc: Global, term: &Term) -> Result<LinForm, NoMemory>
     }
 }
 
-#[cycle(to_lin)]
-fn to_lins(alloc: Global, terms: &List<Term>) -> Result<Vec<LinForm>, NoMemory>
+#[cycle(form_of)]
+fn forms_of(alloc: Global, terms: &List<Term>) -> Result<Vec<LinForm>, NoMemory>
     ensures { IfOk result (λ forms. map lin_of forms.items ≡ map (λ t. to_lin (term_tree t)) terms.now) }
 {
     let mut forms = Vec::new(alloc);
     for term in terms.as_slice() {
-        forms.push(to_lin(alloc, term)?)?;
+        forms.push(form_of(alloc, term)?)?;
     }
     Ok(forms)
+}
+
+// ---- the form of a term that isn't an atom for want of room
+
+fn is_linear(op: &TermOp) -> bool
+    ensures { result ≡ is_linear (h.Term op.now) }
+{
+    match op {
+        TermOp::Add | TermOp::Sub | TermOp::Mul | TermOp::Neg => true,
+        TermOp::Div
+        | TermOp::Mod
+        | TermOp::Wrap(_)
+        | TermOp::ShiftLeft
+        | TermOp::ShiftRight
+        | TermOp::BitAnd
+        | TermOp::BitOr
+        | TermOp::BitXor
+        | TermOp::BitNot
+        | TermOp::Load
+        | TermOp::Count
+        | TermOp::Len
+        | TermOp::Store
+        | TermOp::Alloc(_)
+        | TermOp::Grow => false,
+    }
+}
+
+/// The form of a term, where it fits.
+#[tactic(auto, using(qed_terms::proofs::Equations::tree_laws, crate::proofs::OwnForms::own_laws))]
+pub fn own_form(alloc: Global, term: &Term) -> Result<Option<LinForm>, NoMemory>
+    ensures { IfOk result (λ form. option_map lin_of form ≡ own_form (term_tree term.now)) }
+{
+    match term {
+        Term::Op(op, kids) => {
+            if is_linear(op) {
+                return op_form(alloc, op, kids);
+            }
+            Ok(Some(form_of(alloc, term)?))
+        }
+        Term::Num(value) => Ok(Some(number(alloc, *value))),
+        Term::Var(_, _) => Ok(Some(form_of(alloc, term)?)),
+        Term::Ite(_, _, _) => Ok(Some(form_of(alloc, term)?)),
+        Term::App(_, _) => Ok(Some(form_of(alloc, term)?)),
+    }
 }

@@ -13,7 +13,7 @@ returns-then-is_empty c =
     let none = eqb-true _ 0 (sym c.is_empty.ensures ∙ c.if-is_empty.true) in
     let fits : FitsSigned w128 f.constant = search rules in
     let a = no_parts f.parts.items (omega (arith, none)) in
-    subst (λ z. IfOk c.scale.result (λ form. option_map lin_of form ≡ z)) (sym (product_first (lin_of f) (lin_of g) a)) (rw (to_z-of_z w128 f.constant fits) at c.scale.ensures)
+    subst (λ z. IfOk c.scaled.result (λ form. option_map lin_of form ≡ z)) (sym (product_first (lin_of f) (lin_of g) a)) (rw (to_z-of_z w128 f.constant fits) at c.scaled.ensures)
 
 pub returns-then-is_empty-2 : goal.returns-then-is_empty-2
 returns-then-is_empty-2 c =
@@ -24,4 +24,4 @@ returns-then-is_empty-2 c =
     let fits : FitsSigned w128 g.constant = search rules in
     let a = some_parts f.parts.items (omega (arith, some)) in
     let b = no_parts g.parts.items (omega (arith, none)) in
-    subst (λ z. IfOk c.scale-then-is_empty-2.result (λ form. option_map lin_of form ≡ z)) (sym (product_second (lin_of f) (lin_of g) a b)) (rw (to_z-of_z w128 g.constant fits) at c.scale-then-is_empty-2.ensures)
+    subst (λ z. IfOk c.scaled-then-is_empty-2.result (λ form. option_map lin_of form ≡ z)) (sym (product_second (lin_of f) (lin_of g) a b)) (rw (to_z-of_z w128 g.constant fits) at c.scaled-then-is_empty-2.ensures)

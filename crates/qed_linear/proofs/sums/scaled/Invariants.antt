@@ -1,7 +1,7 @@
 use Rattle.std.proofs.Common.{◌≡◌, take, true}
 use Rattle.qed_linear.specs.Linear.{parts_fit, scale_parts}
 use Rattle.qed_linear.specs.View.{parts_of}
-use Rattle.qed_linear.proofs.sums.scale.Given as goal
+use Rattle.qed_linear.proofs.sums.scaled.Given as goal
 
 abbrev pub invariant-loop-part : goal.invariant-loop-part
 invariant-loop-part l = record {

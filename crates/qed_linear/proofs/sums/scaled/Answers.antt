@@ -6,7 +6,7 @@ use Rattle.qed_terms.specs.View.{term_tree}
 use Rattle.qed_linear.specs.Linear.{is_integer, scale_parts}
 use Rattle.qed_linear.specs.View.{parts_of, lin_of}
 use Rattle.qed_linear.proofs.SumSteps.{scale_more, fit_more, scale_zero, scale_fails, scale_refuses, scale_last_fails, scale_done}
-use Rattle.qed_linear.proofs.sums.scale.Goals as goal
+use Rattle.qed_linear.proofs.sums.scaled.Goals as goal
 
 pub returns-then-by-eq0 : goal.returns-then-by-eq0
 returns-then-by-eq0 c =

@@ -102,3 +102,13 @@ pub fn size_kind(model: Machdep) -> Kind
         Machdep::X86_64 => Kind::ULong,
     }
 }
+
+/// The kind of the difference of two pointers (C11 6.5.6p9).
+pub fn difference_kind(model: Machdep) -> Kind
+    ensures { result ≡ kinds.difference_kind model }
+{
+    match model {
+        Machdep::X86_32 => Kind::Int,
+        Machdep::X86_64 => Kind::Long,
+    }
+}

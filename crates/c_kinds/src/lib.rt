@@ -13,7 +13,7 @@ mod tests;
 
 pub use arithmetic::{difference, held, holds, negated, product, quotient, remainder, sum};
 pub use bitwise::{and_bits, bits, complement, left_shift, or_bits, right_shift, xor_bits};
-pub use conversions::{common, promote, size_kind};
+pub use conversions::{common, difference_kind, promote, size_kind};
 pub use laws::{
     common_is_common, conversions_keep, operators_act_on_bits, promotion_keeps, quotients_divide,
     results_are_exact, results_are_of_kind, shifts_round_down, structs_are_in_order,

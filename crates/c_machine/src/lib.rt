@@ -9,4 +9,6 @@ mod rules;
 pub use exprs::{constant_of, eval_const};
 pub use laws::{constants_follow_the_rules, values_are_of_their_kind};
 pub use literals::{char_constant, token_constant};
-pub use rules::{Constant, operate, result_kind, shift};
+pub use rules::{
+    Constant, binary_of, bytes, cast_to, chosen, operate, result_kind, shift, unary_of,
+};

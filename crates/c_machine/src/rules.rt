@@ -51,7 +51,7 @@ fn is_true(value: Option<i128>) -> Option<i128>
 
 /// An operator of one operand (C11 6.5.3.3).
 #[tactic(auto, unfolding(crate::specs::Rules::unary_of))]
-pub(crate) fn unary_of(model: Machdep, op: UnOp, of: Constant) -> Option<Constant>
+pub fn unary_of(model: Machdep, op: UnOp, of: Constant) -> Option<Constant>
     ensures { result ≡ spec.unary_of model op of }
 {
     let kind = promote(of.kind);
@@ -211,7 +211,7 @@ fn choose(test: Option<i128>, first: Option<i128>, second: Option<i128>) -> Opti
 
 /// `?:` (C11 6.5.15).
 #[tactic(auto, unfolding(crate::specs::Rules::chosen))]
-pub(crate) fn chosen(model: Machdep, test: Constant, first: Constant, second: Constant) -> Constant
+pub fn chosen(model: Machdep, test: Constant, first: Constant, second: Constant) -> Constant
     ensures { result ≡ spec.chosen model test first second }
 {
     let kind = common(model, first.kind, second.kind);
@@ -225,7 +225,7 @@ pub(crate) fn chosen(model: Machdep, test: Constant, first: Constant, second: Co
 
 /// An operator of two operands (C11 6.5.5 to 6.5.14).
 #[tactic(auto, unfolding(crate::specs::Rules::binary_of))]
-pub(crate) fn binary_of(model: Machdep, op: BinOp, left: Constant, right: Constant) -> Constant
+pub fn binary_of(model: Machdep, op: BinOp, left: Constant, right: Constant) -> Constant
     ensures { result ≡ spec.binary_of model op left right }
 {
     match op {
@@ -256,7 +256,7 @@ pub(crate) fn binary_of(model: Machdep, op: BinOp, left: Constant, right: Consta
 }
 
 /// A cast to an integer kind (C11 6.5.4).
-pub(crate) fn cast_to(model: Machdep, kind: Kind, of: Constant) -> Constant
+pub fn cast_to(model: Machdep, kind: Kind, of: Constant) -> Constant
     ensures { result ≡ spec.cast_to model kind of }
 {
     Constant {
@@ -266,7 +266,7 @@ pub(crate) fn cast_to(model: Machdep, kind: Kind, of: Constant) -> Constant
 }
 
 /// How many bytes a number of the kind takes.
-pub(crate) fn bytes(model: Machdep, kind: Kind) -> i128
+pub fn bytes(model: Machdep, kind: Kind) -> i128
     ensures { result ≡ spec.bytes model kind }
 {
     i128::from(bits(model, kind) / 8)

@@ -15,8 +15,8 @@ use crate::build::{copy_both, pair};
 use crate::constants::truth_constant;
 use crate::terms::normal_op;
 use qed_linear::{
-    LinForm, common_divisor, divide_exact, divides, make_lead_positive, number, of_lin, subtract,
-    tighten, to_lin,
+    LinForm, common_divisor, divide_exact, divides, form_of, into_term, make_lead_positive, number,
+    subtract, tighten,
 };
 use qed_terms::{FormOp, Formula, Term, TermOp};
 use std::alloc::Global;
@@ -26,7 +26,7 @@ use wp_base::{List, NoMemory};
 fn with_zero(alloc: Global, op: FormOp, form: LinForm) -> Result<Formula, NoMemory>
     ensures { IfOk result (λ formula. formula_tree formula ≡ node (h.Form op) (two (of_lin (lin_of form)) (num (pos 0)))) }
 {
-    let term = of_lin(alloc, form)?;
+    let term = into_term(alloc, form)?;
     Formula::relation(alloc, op, term, Term::number(0))
 }
 
@@ -58,8 +58,8 @@ fn equal_form(alloc: Global, form: LinForm) -> Result<Formula, NoMemory>
 fn difference(alloc: Global, left: &Term, right: &Term) -> Result<Option<LinForm>, NoMemory>
     ensures { IfOk result (λ form. option_map lin_of form ≡ checked (subtract (to_lin (term_tree left.now)) (to_lin (term_tree right.now)))) }
 {
-    let form = to_lin(alloc, left)?;
-    let less = to_lin(alloc, right)?;
+    let form = form_of(alloc, left)?;
+    let less = form_of(alloc, right)?;
     subtract(alloc, &form, &less)
 }
 
@@ -155,7 +155,7 @@ fn negated_at_most(alloc: Global, term: &Term, zero: &Term) -> Result<Option<For
     if !is_zero(zero) {
         return Ok(None);
     }
-    let form = to_lin(alloc, term)?;
+    let form = form_of(alloc, term)?;
     match subtract(alloc, &number(alloc, 1), &form)? {
         Some(form) => Ok(Some(with_zero(alloc, FormOp::AtMost, form)?)),
         None => Ok(None),

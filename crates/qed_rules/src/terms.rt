@@ -8,7 +8,7 @@ ghost use Rattle.qed_rules.specs.Rules.{then_some, chosen_arm};
 ghost use Rattle.qed_rules.specs.Passes.{linear_term, normal_node};
 
 use crate::constants::is_truth_constant;
-use qed_linear::{is_integer, of_lin, op_form, to_lin};
+use qed_linear::{form_of, into_term, is_integer, op_form};
 use qed_numbers::number_step;
 use qed_terms::{Formula, Term, TermOp};
 use std::alloc::Global;
@@ -18,7 +18,7 @@ use wp_base::{List, NoMemory};
 fn linear_term(alloc: Global, term: &Term) -> Result<Term, NoMemory>
     ensures { IfOk result (λ linear. term_tree linear ≡ linear_term (term_tree term.now)) }
 {
-    of_lin(alloc, to_lin(alloc, term)?)
+    into_term(alloc, form_of(alloc, term)?)
 }
 
 // An operator over terms that no rule on numbers changes.
@@ -27,7 +27,7 @@ fn by_form(alloc: Global, op: TermOp, kids: List<Term>) -> Result<Term, NoMemory
     ensures { IfOk result (λ linear. term_tree linear ≡ linear_term (node (h.Term op) (trees_of (map term_tree kids)))) }
 {
     match op_form(alloc, &op, &kids)? {
-        Some(form) => of_lin(alloc, form),
+        Some(form) => into_term(alloc, form),
         None => Ok(Term::Op(op, kids)),
     }
 }

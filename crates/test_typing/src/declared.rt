@@ -5,6 +5,8 @@
 //     int i; unsigned u; long l; unsigned long ul; char c; unsigned char uc; _Bool b; short h; const int k;
 //     int *p; const int *q; int **pp; char *cp; int a[4]; int *ap[2]; struct s v; struct s *w;
 //     int f(int, int *); void n(void);
+//
+// and the locals `int x, y, z; char *s, *t;`.
 
 use c_kinds::StructLayout;
 use c_scopes::{Field, File, Local, Object, Scope, Signature, Structure};
@@ -33,6 +35,15 @@ fn name_of(alloc: Global, name: &str) -> Result<Str, NoMemory> {
     Str::from_bytes(alloc, name.as_bytes())
 }
 
+fn object_of(alloc: Global, name: &str, ty: CoreType, is_const: bool) -> Result<Object, NoMemory> {
+    Ok(Object {
+        name: name_of(alloc, name)?,
+        ty,
+        is_const,
+        line: 1,
+    })
+}
+
 fn declare(
     alloc: Global,
     file: &mut File,
@@ -40,12 +51,7 @@ fn declare(
     ty: CoreType,
     is_const: bool,
 ) -> Result<(), NoMemory> {
-    let object = Object {
-        name: name_of(alloc, name)?,
-        ty,
-        is_const,
-        line: 1,
-    };
+    let object = object_of(alloc, name, ty, is_const)?;
     let _is_new = file.declare_object(alloc, object)?;
     Ok(())
 }
@@ -148,15 +154,29 @@ fn functions(alloc: Global, file: &mut File) -> Result<(), NoMemory> {
     Ok(())
 }
 
-/// The scope of these declarations, outside functions.
+fn locals(alloc: Global) -> Result<Local, NoMemory> {
+    let mut local = Local::new(alloc);
+    local.enter(alloc)?;
+    for name in &["x", "y", "z"] {
+        let ty = CoreType::of_kind(alloc, Kind::Int);
+        let object = object_of(alloc, name, ty, false)?;
+        let _is_new = local.declare(alloc, object)?;
+    }
+    for name in &["s", "t"] {
+        let ty = type_of(alloc, Base::Of(Kind::Char), &[false], None)?;
+        let object = object_of(alloc, name, ty, false)?;
+        let _is_new = local.declare(alloc, object)?;
+    }
+    Ok(local)
+}
+
+/// The scope of these declarations.
 pub fn scope_of(alloc: Global) -> Result<Scope, NoMemory> {
     let mut file = File::new(alloc);
     integers(alloc, &mut file)?;
     pointers(alloc, &mut file)?;
     structs(alloc, &mut file)?;
     functions(alloc, &mut file)?;
-    Ok(Scope {
-        file,
-        local: Local::new(alloc),
-    })
+    let local = locals(alloc)?;
+    Ok(Scope { file, local })
 }

@@ -1,5 +1,6 @@
 //! Floor 8, tests: types of expressions. Each line of the file that it is given is an expression, which is typed where `src/declared.rt` has its
-//! declarations; the line is printed, and behind it the type, with the number of a constant, or the first fault.
+//! declarations; the line is printed, and behind it the type, with the number of a constant, or the first fault. Behind the heading `full:` it is told
+//! in place of the type whether the expression has one result in every order that C allows.
 #![tactic(auto)]
 
 mod declared;
@@ -10,7 +11,9 @@ use crate::told::tell_operand;
 use c_exprs::typed_expr;
 use c_kinds::Machdep;
 use c_lexer::lex;
+use c_operands::{Operand, valued};
 use c_scopes::Scope;
+use c_sequence::is_sequenced;
 use c_syntax::{Expr, Tokens};
 use parse_exprs::expr_at;
 use std::alloc::Global;
@@ -20,6 +23,9 @@ use wp_base::{NoMemory, Stop};
 
 /// The greatest length of a line.
 const MOST_BYTES: usize = 1_000_000;
+
+/// All variables are plain, but for the arrays and the struct, which are named with an index or a field alone.
+const PLAIN: [bool; 20] = [true; 20];
 
 /// The cells of the one struct that is declared.
 const SIZES: [u32; 1] = [5];
@@ -36,18 +42,43 @@ fn tell_stop(page: &mut Page, stop: Stop) {
     }
 }
 
-fn tell_expr(alloc: Global, page: &mut Page, model: Machdep, scope: &Scope, expr: &Expr) {
-    match typed_expr(alloc, model, &SIZES, scope, expr) {
-        Ok(operand) => tell_operand(page, &operand),
+/// What is told of the expressions from here on.
+#[derive(Clone, Copy)]
+struct Mode {
+    model: Machdep,
+    /// Whether they are full expressions, and it is told whether they have one result in every order.
+    full: bool,
+}
+
+fn tell_order(alloc: Global, page: &mut Page, operand: Operand) {
+    match valued(alloc, 1, operand) {
         Err(stop) => tell_stop(page, stop),
+        Ok(of) => page.put(if is_sequenced(&PLAIN, &PLAIN, &of.value) {
+            "sequenced"
+        } else {
+            "unsequenced"
+        }),
     }
 }
 
-fn tell_tokens(alloc: Global, page: &mut Page, model: Machdep, scope: &Scope, tokens: &Tokens) {
+fn tell_expr(alloc: Global, page: &mut Page, mode: Mode, scope: &Scope, expr: &Expr) {
+    match typed_expr(alloc, mode.model, &SIZES, scope, expr) {
+        Err(stop) => tell_stop(page, stop),
+        Ok(operand) => {
+            if mode.full {
+                tell_order(alloc, page, operand);
+            } else {
+                tell_operand(page, &operand);
+            }
+        }
+    }
+}
+
+fn tell_tokens(alloc: Global, page: &mut Page, mode: Mode, scope: &Scope, tokens: &Tokens) {
     match expr_at(alloc, &[], 200, tokens.as_slice()) {
         Ok((expr, rest)) => {
             if rest.is_empty() {
-                tell_expr(alloc, page, model, scope, &expr);
+                tell_expr(alloc, page, mode, scope, &expr);
             } else {
                 page.put("more than an expression");
             }
@@ -56,27 +87,32 @@ fn tell_tokens(alloc: Global, page: &mut Page, model: Machdep, scope: &Scope, to
     }
 }
 
-fn tell_text(alloc: Global, page: &mut Page, model: Machdep, scope: &Scope, text: &str) {
+fn tell_text(alloc: Global, page: &mut Page, mode: Mode, scope: &Scope, text: &str) {
     let bytes = text.as_bytes();
     if bytes.len() > MOST_BYTES {
         return page.put("too long");
     }
     match lex(alloc, bytes) {
-        Ok(tokens) => tell_tokens(alloc, page, model, scope, &tokens),
+        Ok(tokens) => tell_tokens(alloc, page, mode, scope, &tokens),
         Err(stop) => tell_stop(page, stop),
     }
 }
 
 fn tell_all(alloc: Global, page: &mut Page, texts: &str) -> Result<(), NoMemory> {
     let scope = scope_of(alloc)?;
-    let mut model = Machdep::X86_64;
+    let mut mode = Mode {
+        model: Machdep::X86_64,
+        full: false,
+    };
     for text in texts.lines() {
         page.put(text);
         if text == "x86_32:" {
-            model = Machdep::X86_32;
+            mode.model = Machdep::X86_32;
+        } else if text == "full:" {
+            mode.full = true;
         } else {
             page.put("  => ");
-            tell_text(alloc, page, model, &scope, text);
+            tell_text(alloc, page, mode, &scope, text);
         }
         page.put("\n");
     }

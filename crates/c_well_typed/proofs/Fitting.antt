@@ -139,7 +139,7 @@ pointer_by_fits c line type v false false fits h e = tt
 
 pointer_for_by : (c : Around) (line : ℕ) (type : CoreType) (v : t.Value) (null : Bool) → ValueFits c v → is_pointer type ≡ true
     → Holds (FitsAs c type) (if null then Ok (t.typed t.null type (t.line_of v))
-        else pointer_by line type v (same_type (t.type_of v) type) (is_with_const type (t.type_of v)))
+    else pointer_by line type v (same_type (t.type_of v) type) (is_with_const type (t.type_of v)))
 pointer_for_by c line type v true fits pointer = (pointer, refl)
 pointer_for_by c line type v false fits pointer = pointer_by_fits c line type v _ _ fits refl refl
 

@@ -117,8 +117,13 @@ shift_by_made c m line o how v w None k shifts fv fw ev ew = tt
 shift_by_made c m line o how v w (Some j) None shifts fv fw ev ew = tt
 shift_by_made c m line o how v w (Some j) (Some k) shifts fv fw ev ew =
     of_two_fits c m line (op.Arithmetic o) how (promote j) (promote j) (promote k) j k v w fv fw ev ew (λ a b ea eb.
-    record { of = promote j; promoted = promoted_is j; result = refl;
-        first = ea; second = subst (λ s. SecondFits s (promote j) b) (sym shifts) (promote k, eb, promoted_is k) })
+    record {
+      of = promote j;
+      promoted = promoted_is j;
+      result = refl;
+      first = ea;
+      second = subst (λ s. SecondFits s (promote j) b) (sym shifts) (promote k, eb, promoted_is k);
+    })
 
 pub shift_made : (c : Around) (m : Machdep) (line : ℕ) (o : Arithmetic) (how : BinOp) (v w : Rvalue) → is_shift o ≡ true → RvalueFits c v → RvalueFits c w
     → Made c (shift m line o how v w)

@@ -5,3 +5,4 @@ pub mod Pointers
 pub mod Objects
 pub mod Changes
 pub mod WellTyped
+pub mod Scalars

@@ -160,9 +160,14 @@ other_arms_made : (c : Around) (line : ℕ) (test : Rvalue) (v w : t.Value) (ali
 other_arms_made c line test v w true second first both_void ft fv fw ea es ef eb = pointer_arms_fit c line test v w ft fv fw (alike_is _ _ ea)
 other_arms_made c line test v w false true first both_void ft fv fw ea es ef eb = (ft.0, fv, left (is_pointer (t.type_of v)) (is_null w) es, ft.1, refl, refl)
 other_arms_made c line test v w false false true both_void ft fv fw ea es ef eb = (ft.0, right (is_null v) (is_pointer (t.type_of w)) ef, fw, ft.1, refl, refl)
-other_arms_made c line test v w false false false true ft fv fw ea es ef eb =
-    (ft.0, fv, fw, ft.1, void_is _ (left (is_void (t.type_of v)) (is_void (t.type_of w)) eb),
-    void_is _ (right (is_void (t.type_of v)) (is_void (t.type_of w)) eb))
+other_arms_made c line test v w false false false true ft fv fw ea es ef eb = (
+  ft.0,
+  fv,
+  fw,
+  ft.1,
+  void_is _ (left (is_void (t.type_of v)) (is_void (t.type_of w)) eb),
+  void_is _ (right (is_void (t.type_of v)) (is_void (t.type_of w)) eb),
+)
 other_arms_made c line test v w false false false false ft fv fw ea es ef eb = tt
 
 arms_by_made : (c : Around) (line : ℕ) (test v w : Rvalue) (j k : Option Kind) → ScalarFits c test → RvalueFits c v → RvalueFits c w

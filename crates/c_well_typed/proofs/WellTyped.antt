@@ -197,7 +197,7 @@ mutual
       after_holds (OperandFits c) (OperandFits c) (typed c a) _ (typed_made c a) (λ x fx. stepped_made c c.model line up prefix x fx)
   typed_made c (e.call line f args) =
       call_by_made c line (count_of args) (λ params. typed_for c params args) (typed_all c args)
-          (find c.scope f) (λ types same. arguments_made c types args same)
+      (find c.scope f) (λ types same. arguments_made c types args same)
   typed_made c (e.index line a b) =
       after_holds (OperandFits c) (OperandFits c) (typed c a) _ (typed_made c a) (λ x fx.
       after_holds (OperandFits c) (OperandFits c) (typed c b) _ (typed_made c b) (λ y fy. indexed_made c line x y fx fy))

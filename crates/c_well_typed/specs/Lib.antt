@@ -1,3 +1,4 @@
 pub mod Paths
 pub mod Operators
 pub mod WellTyped
+pub mod Scalars

@@ -3,4 +3,4 @@
 
 mod laws;
 
-pub use laws::typed_expressions_fit;
+pub use laws::{typed_expressions_fit, values_are_scalars};

@@ -6,11 +6,12 @@ mod chains;
 mod entries;
 mod exact;
 mod nodes;
+mod operands;
 mod past;
 mod place;
-mod readers;
 mod terms;
 mod tokens;
+mod wholes;
 
 pub use chains::{begins_chain, continues};
 pub use exact::{

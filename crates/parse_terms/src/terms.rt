@@ -6,7 +6,7 @@ ghost use Rattle.parse_terms.specs.Read as spec;
 
 use crate::entries::is_entry;
 use crate::place::Place;
-use crate::readers::{binary, spread_term, term, terms};
+use crate::wholes::{binary, spread_term, term, terms};
 use c_grammar::{Fault, Read, SHIFTS};
 use c_syntax::{Term, Token};
 use std::alloc::Global;

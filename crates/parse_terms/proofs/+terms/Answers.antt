@@ -10,10 +10,10 @@ use Rattle.c_grammar.proofs.Turns.{items_end, items_stop, items_turn, items_faul
 use Rattle.parse_terms.specs.Read as r
 use Rattle.parse_terms.specs.Views.{view_place}
 use Rattle.parse_terms.proofs.Reading.{choice_fault, parts_fault, parts_turn}
-use Rattle.parse_terms.proofs.readers.+terms.Goals as goal
+use Rattle.parse_terms.proofs.+terms.Goals as goal
 
-pub operators-returns-in_err-right : goal.operators-returns-in_err-right
-operators-returns-in_err-right t c =
+pub wholes::operators-returns-in_err-right : goal.wholes::operators-returns-in_err-right
+wholes::operators-returns-in_err-right t c =
     let p = err_from_is_err_and c.from_residual.result c.from_residual.ensures.1 in
     let left = length c.args.tokens.now - c.loop-turn.turn in
     let operand = levels r.joined r.operator (c.args.level - 1) (r.read c.args.types.now c.args.room r.operands (view_place c.args.place)) in
@@ -21,8 +21,8 @@ operators-returns-in_err-right t c =
     (chain_fault view_term r.joined (r.operator c.args.level) left (left - 1) operand (view_term c.loop-turn.left) c.loop-turn.rest.now
     c.in-Some.op c.in-Some.line c.in-Some.after.now _ (omega arith) c.in-Some.ensures c.in_err-right.ensures)
 
-pub operators-loop-turn-preserved : goal.operators-loop-turn-preserved
-operators-loop-turn-preserved t c =
+pub wholes::operators-loop-turn-preserved : goal.wholes::operators-loop-turn-preserved
+wholes::operators-loop-turn-preserved t c =
     let left = length c.args.tokens.now - c.loop-turn.turn in
     let later = length c.args.tokens.now - (c.loop-turn.turn + 1) in
     let operand = levels r.joined r.operator (c.args.level - 1) (r.read c.args.types.now c.args.room r.operands (view_place c.args.place)) in
@@ -30,8 +30,8 @@ operators-loop-turn-preserved t c =
     c.in-Some.op c.in-Some.line c.in-Some.after.now c.in_ok-right.after.now (omega arith) c.in-Some.ensures c.in_ok-right.ensures c.in_ok-left.ensures
     ∙ c.loop-turn.invariant
 
-pub parts-returns-in_err-next : goal.parts-returns-in_err-next
-parts-returns-in_err-next t c =
+pub operands::parts-returns-in_err-next : goal.operands::parts-returns-in_err-next
+operands::parts-returns-in_err-next t c =
     let p = err_from_is_err_and c.from_residual.result c.from_residual.ensures.1 in
     let left = length c.args.tokens.now - c.loop-turn.turn in
     let inner = r.inner c.args.types.now c.args.room r.wholes (inside_of (view_place c.args.place)) in
@@ -39,8 +39,8 @@ parts-returns-in_err-next t c =
     (parts_fault view_term (view_place c.args.place) inner left (left - 1) (view_term c.loop-turn.part) c.loop-turn.rest.now
     c.in-Some.selector c.in-Some.line c.in-Some.after.now _ (omega arith) c.in-Some.ensures c.in_err-next.ensures)
 
-pub parts-loop-turn-preserved : goal.parts-loop-turn-preserved
-parts-loop-turn-preserved t c =
+pub operands::parts-loop-turn-preserved : goal.operands::parts-loop-turn-preserved
+operands::parts-loop-turn-preserved t c =
     let left = length c.args.tokens.now - c.loop-turn.turn in
     let later = length c.args.tokens.now - (c.loop-turn.turn + 1) in
     let inner = r.inner c.args.types.now c.args.room r.wholes (inside_of (view_place c.args.place)) in
@@ -48,21 +48,21 @@ parts-loop-turn-preserved t c =
     c.in-Some.selector c.in-Some.line c.in-Some.after.now c.in_ok-next.after.now (omega arith) c.in-Some.ensures c.in_ok-next.ensures
     ∙ c.loop-turn.invariant
 
-pub more_terms-returns-in_default : goal.more_terms-returns-in_default
-more_terms-returns-in_default t c =
+pub wholes::more_terms-returns-in_default : goal.wholes::more_terms-returns-in_default
+wholes::more_terms-returns-in_default t c =
     let one = r.read c.args.types.now c.args.room r.wholes (view_place c.args.place) in
     sym c.loop-turn.invariant ∙ items_stop one (length c.args.tokens.now - c.loop-turn.turn) (map view_term c.loop-turn.terms) c.loop-turn.rest.now c.in_default.ensures
 
-pub more_terms-returns-in_err-item : goal.more_terms-returns-in_err-item
-more_terms-returns-in_err-item t c =
+pub wholes::more_terms-returns-in_err-item : goal.wholes::more_terms-returns-in_err-item
+wholes::more_terms-returns-in_err-item t c =
     let p = err_from_is_err_and c.from_residual.result c.from_residual.ensures.1 in
     let left = length c.args.tokens.now - c.loop-turn.turn in
     let one = r.read c.args.types.now c.args.room r.wholes (view_place c.args.place) in
     rw (p.1, p.2, ← c.loop-turn.invariant)
     (items_fault view_term (map view_term) one left (left - 1) (map view_term c.loop-turn.terms) c.loop-turn.rest.now _ c.in-Some.after.now _ (omega arith) c.in-Some.ensures c.in_err-item.ensures)
 
-pub more_terms-loop-turn-preserved : goal.more_terms-loop-turn-preserved
-more_terms-loop-turn-preserved t c =
+pub wholes::more_terms-loop-turn-preserved : goal.wholes::more_terms-loop-turn-preserved
+wholes::more_terms-loop-turn-preserved t c =
     let left = length c.args.tokens.now - c.loop-turn.turn in
     let later = length c.args.tokens.now - (c.loop-turn.turn + 1) in
     let one = r.read c.args.types.now c.args.room r.wholes (view_place c.args.place) in
@@ -72,13 +72,13 @@ more_terms-loop-turn-preserved t c =
     ∙ items_turn one left later (map view_term c.loop-turn.terms) (view_term item) c.loop-turn.rest.now _ c.in-Some.after.now c.in_ok-item.after.now (omega arith) c.in-Some.ensures c.in_ok-item.ensures
     ∙ c.loop-turn.invariant
 
-pub more_terms-returns : goal.more_terms-returns
-more_terms-returns t c =
+pub wholes::more_terms-returns : goal.wholes::more_terms-returns
+wholes::more_terms-returns t c =
     let one = r.read c.args.types.now c.args.room r.wholes (view_place c.args.place) in
     sym c.loop-turn.invariant ∙ items_end one (length c.args.tokens.now - c.loop-turn.turn) (map view_term c.loop-turn.terms) c.loop-turn.rest.now (omega arith)
 
-pub choice-returns-in_err-second : goal.choice-returns-in_err-second
-choice-returns-in_err-second t c =
+pub wholes::choice-returns-in_err-second : goal.wholes::choice-returns-in_err-second
+wholes::choice-returns-in_err-second t c =
     let p = err_from_is_err_and c.from_residual-in_err-second.result c.from_residual-in_err-second.ensures.1 in
     let inner = r.inner c.args.types.now c.args.room r.wholes (view_place c.args.place) in
     rw (p.1, p.2)

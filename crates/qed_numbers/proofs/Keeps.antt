@@ -18,7 +18,7 @@ use Rattle.qed_linear.proofs.Facts.{equal_is}
 use Rattle.qed_numbers.specs.Numbers as spec
 use Rattle.qed_numbers.specs.Numbers.{Rule, first_of_rules, number_at, is_that, is_num, zero_tree, integer_where, of_one, of_two, fitted, as_num, of_numbers, is_of_one_width, converted, is_converted, power_of_two, power_by, times_number, shifted, number_rules, number_step}
 use Rattle.qed_numbers.specs.Laws.{NumbersKeepMeaning}
-use Rattle.qed_numbers.proofs.Tests.{then_some_is, either, both_so, one_so, as_num_is, fitted_back, of_one_back, of_two_back}
+use Rattle.qed_numbers.proofs.Tests.{then_some_is, either, both_so, or_either, as_num_is, fitted_back, of_one_back, of_two_back}
 use Rattle.qed_numbers.proofs.Operators.{quotient_by_one, remainder_by_one, quotient_of_zero, remainder_of_zero, right_by_zero, left_is_product, both_with_zero, zero_with_both, either_with_zero, zero_with_either, one_with_zero, zero_with_one, same_width, converted_again}
 
 module _ (world : World) (env : Values) where
@@ -186,7 +186,7 @@ module _ (world : World) (env : Values) where
   keeps_bits_zero : Keeps spec.bits_zero_rule
   keeps_bits_zero op.BitAnd (more t (more u stop)) w k =
       let p = zero_means (is_num (pos 0) t || is_num (pos 0) u) w k in
-      elim (one_so (is_num (pos 0) t) (is_num (pos 0) u) p.0) [
+      elim (or_either (is_num (pos 0) t) (is_num (pos 0) u) p.0) [
         | inl e ↦ p.1 ∙ ap Whole (sym (ap (λ z. both_bits z (V u)) (is_num_is (pos 0) t e) ∙ zero_with_both (V u)))
         | inr e ↦ p.1 ∙ ap Whole (sym (ap (both_bits (V t)) (is_num_is (pos 0) u e) ∙ both_with_zero (V t)))
       ]

@@ -1,7 +1,7 @@
 -- Operators at 0 and 1, and conversions made twice.
-use Rattle.std.proofs.Common.{◌≡◌, ℕ, zero, suc, ◌-◌, ◌/◌, ◌%◌, ◌^◌, ◌<◌, Bool, true, false, ℤ, pos, negsuc, ◌+ℤ◌, ◌-ℤ◌, ◌*ℤ◌, neg_ℤ, bit_xor, refl, ◌∙◌, ap, arith}
+use Rattle.std.proofs.Common.{◌≡◌, ℕ, zero, suc, ◌-◌, ◌/◌, ◌%◌, ◌^◌, Bool, true, false, ℤ, pos, negsuc, ◌+ℤ◌, ◌-ℤ◌, ◌*ℤ◌, neg_ℤ, bit_xor, refl, ◌∙◌, ap, arith}
 use Rattle.std.specs.Int.Bits.{and_zero_l, and_zero_r, or_zero_l, or_zero_r, xor_zero_l, xor_zero_r}
-use Rattle.std.proofs.Math.Nat.{zero-div, zero-mod, mod-lt, mod-eq_of_lt}
+use Rattle.std.proofs.Math.Nat.{zero-div, zero-mod, mod-eq_of_lt}
 use Rattle.std.proofs.lemmas.Nat.{pow_pos}
 use Rattle.std.proofs.lemmas.Int.{ints}
 use Rattle.std.proofs.Math.IntN.{*ℤ_comm}
@@ -9,6 +9,7 @@ use Rattle.wp_base.specs.declared.kinds.Kind.{Kind}
 use Rattle.wp_base.specs.declared.kinds.Kind.TheVariants as kind
 use Rattle.wp_base.specs.Kinds.{floor_mod, wrapped, truth_number, convert}
 use Rattle.wp_base.specs.Blocks.{to_nat}
+use Rattle.c_kinds.proofs.Converting.{rest_below}
 use Rattle.qed_terms.specs.Operators.{quotient, remainder, shifted_left, shifted_right, both_bits, either_bit, one_bit, without}
 use Rattle.qed_linear.proofs.Ring.{times_one}
 use Rattle.qed_numbers.specs.Numbers.{is_of_one_width}
@@ -91,10 +92,6 @@ truth_again : (z : ℤ) → truth_number (truth_number z) ≡ truth_number z
 truth_again (pos zero) = refl
 truth_again (pos (suc n)) = refl
 truth_again (negsuc n) = refl
-
-rest_below : (z : ℤ) (m : ℕ) → 0 < m → floor_mod z m < m
-rest_below (pos n) m k = mod-lt n k
-rest_below (negsuc n) m k = let l = mod-lt n k in omega (arith, k, l)
 
 wrapped_again : (bits : ℕ) (signed : Bool) (z : ℤ) → wrapped bits signed (wrapped bits signed z) ≡ wrapped bits signed z
 wrapped_again bits false z = ap pos (mod-eq_of_lt (rest_below z (2 ^ bits) (pow_pos bits)))

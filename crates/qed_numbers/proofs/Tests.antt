@@ -17,9 +17,9 @@ pub both_so : (p q : Bool) → p && q ≡ true → (p ≡ true) × (q ≡ true)
 both_so true q k = (refl, k)
 both_so false q k = absurd cc
 
-pub one_so : (p q : Bool) → p || q ≡ true → (p ≡ true) ⊎ (q ≡ true)
-one_so true q k = inl refl
-one_so false q k = inr k
+pub or_either : (p q : Bool) → p || q ≡ true → (p ≡ true) ⊎ (q ≡ true)
+or_either true q k = inl refl
+or_either false q k = inr k
 
 pub as_num_is : (o : Option ℤ) (w : Tree) → as_num o ≡ Some w → (z : ℤ) × (o ≡ Some z) × (w ≡ num z)
 as_num_is None w k = absurd cc

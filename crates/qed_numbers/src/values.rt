@@ -50,7 +50,6 @@ pub fn shifted_right(value: i128, by: i128) -> i128
 }
 
 /// 2^by, where a negative `by` counts as 0; none for more than 126.
-
 pub fn power_of_two(by: i128) -> Option<i128>
     ensures { result ≡ power_of_two by }
 {

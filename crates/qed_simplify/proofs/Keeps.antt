@@ -17,7 +17,7 @@ use Rattle.qed_rules.specs.Rules.{Rule, is_formula, unless_same, changed, sums_r
 use Rattle.qed_numbers.specs.Numbers.{number_step}
 use Rattle.qed_numbers.proofs.Keeps.{numbers_keep}
 use Rattle.qed_linear.proofs.Facts.{and_left, and_right}
-use Rattle.qed_simplify.proofs.Tests.{or_either, then_some_is, either}
+use Rattle.qed_numbers.proofs.Tests.{or_either, then_some_is, either}
 use Rattle.qed_terms.proofs.Total.{same_exact}
 use Rattle.qed_simplify.proofs.Comparisons.{le_difference, lt_more, not_le, zero_less}
 use Rattle.qed_simplify.proofs.Derived.{Fixed, AllFixed}

@@ -1,5 +1,5 @@
 -- Small facts on tests, and on what a test lets through.
-use Rattle.std.proofs.Common.{◌≡◌, Bool, true, false, ◌||◌, ◌⊎◌, inl, inr, refl, Option, Some, None}
+use Rattle.std.proofs.Common.{◌≡◌, Bool, true, false, ◌||◌, refl, Option, Some, None}
 use Rattle.qed_terms.specs.Tree.{Tree}
 use Rattle.qed_rules.specs.Rules.{then_some, first_some}
 
@@ -11,21 +11,9 @@ pub or_right : (p q : Bool) → p || q ≡ false → q ≡ false
 or_right true q k = absurd cc
 or_right false q k = k
 
-pub or_either : (p q : Bool) → p || q ≡ true → (p ≡ true) ⊎ (q ≡ true)
-or_either true q k = inl refl
-or_either false q k = inr k
-
-pub then_some_is : (b : Bool) (t w : Tree) → then_some b t ≡ Some w → (b ≡ true) × (t ≡ w)
-then_some_is true t w k = (refl, cc)
-then_some_is false t w k = absurd cc
-
 pub then_some_none : (b : Bool) (t : Tree) → then_some b t ≡ None → b ≡ false
 then_some_none true t k = absurd cc
 then_some_none false t k = refl
-
-pub either : (o p : Option Tree) (w : Tree) → first_some o p ≡ Some w → (o ≡ Some w) ⊎ (p ≡ Some w)
-either (Some t) p w k = inl k
-either None p w k = inr k
 
 pub first_none : (o p : Option Tree) → first_some o p ≡ None → o ≡ None
 first_none (Some t) p k = absurd cc

@@ -13,7 +13,7 @@ use Rattle.qed_linear.specs.Linear.{is_integer, unwrap_or}
 use Rattle.qed_rules.specs.Rules.{is_formula, chosen_arm, then_some, nots, negated_relation, negated_relation_at, junction, first_some, step}
 use Rattle.qed_simplify.specs.Normal.{Normal, Normals, stays, changes, nothing, each}
 use Rattle.qed_rules.specs.Passes.{normal_junction, normal_not, normal_nots, linear_term, normal_node, normalise, normalise_all}
-use Rattle.qed_simplify.proofs.Tests.{then_some_is}
+use Rattle.qed_numbers.proofs.Tests.{then_some_is}
 use Rattle.qed_simplify.proofs.Derived.{Fixed, AllFixed, fixed-normal, fixed-normals, normal-fixed, normals-fixed, over_kids}
 use Rattle.qed_simplify.proofs.Settled.{num_normal, op_normal, number_normal}
 use Rattle.qed_simplify.proofs.Relations.{truth_normal, at_most_normal, equal_normal, negated_relation_normal}

@@ -2,7 +2,7 @@
 
 use c_operands::{Operand, number_of};
 use test_lines::Page;
-use typed_prog::{Base, CoreType};
+use typed_prog::{Base, CoreType, Value};
 use wp_base::Kind;
 
 fn kind_name(kind: Kind) -> &'static str {
@@ -42,6 +42,15 @@ fn tell_type(page: &mut Page, ty: &CoreType) {
     }
 }
 
+/// The type of a value, and its number where it is a constant.
+pub fn tell_value(page: &mut Page, value: &Value) {
+    tell_type(page, &value.ty);
+    if let Some(number) = number_of(value) {
+        page.put(" ");
+        page.put_number(number);
+    }
+}
+
 /// The operand: `object`, `constant object`, `value`, or `constant` with its number where that is known.
 pub fn tell_operand(page: &mut Page, operand: &Operand) {
     match operand {
@@ -55,11 +64,7 @@ pub fn tell_operand(page: &mut Page, operand: &Operand) {
         }
         Operand::Value(value, is_constant) => {
             page.put(if *is_constant { "constant " } else { "value " });
-            tell_type(page, &value.ty);
-            if let Some(number) = number_of(value) {
-                page.put(" ");
-                page.put_number(number);
-            }
+            tell_value(page, value);
         }
     }
 }

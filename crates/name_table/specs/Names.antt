@@ -1,4 +1,5 @@
--- Names and what each of them means, in the order of their declarations. A name is declared once in a scope (C11 6.2.1, 6.7p3).
+-- Names and what each of them means, in the order of their declarations. A name is declared once in a scope (C11 6.2.1;
+-- narrower than 6.7p3, by which typedefs of one type, tags and names with linkage may be declared again).
 use Rattle.std.specs.Prelude.{ℕ, Bool, List, [], ◌∷◌, ◌++◌, map, Option, Some, None, if◌then◌else◌}
 use Rattle.std.specs.Option.{is_none}
 use Rattle.std.specs.Str.{bytes_eq}

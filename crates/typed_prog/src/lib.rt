@@ -1,4 +1,4 @@
-//! Floor 3, program: typed programs: types, and expressions and statements whose names are numbers, with the type of each node.
+//! Floor 3, program: typed programs: types, and expressions whose names are numbers, with the type of each node.
 #![tactic(auto)]
 
 mod laws;

@@ -1,5 +1,5 @@
 // The declarations of a function's blocks (C11 6.2.1).
-ghost use Rattle.std.specs.Prelude.{◌≡◌, IfOk, OnOk};
+ghost use Rattle.std.specs.Prelude.{◌≡◌, IfOk, OnOk, length};
 ghost use Rattle.c_scopes.specs.Declarations as spec;
 
 use crate::file::number_of;
@@ -7,7 +7,7 @@ use crate::symbols::{Object, Symbol};
 use name_table::Scopes;
 use std::alloc::Global;
 use typed_prog::Variable;
-use wp_base::{List, NoMemory};
+use wp_base::{List, NoMemory, Str};
 
 /// The names of the blocks around a place of a function, and all objects that the function declared so far, its parameters first. Where
 /// memory is lacking in a declaration, this may only be dropped.
@@ -45,17 +45,44 @@ impl Local {
         self.blocks.leave();
     }
 
+    /// Whether a name isn't declared in the innermost block.
+    pub fn is_free(&self, name: &Str) -> bool
+        ensures { result ≡ spec.is_free_here self.now name.now }
+    {
+        self.blocks.is_free(name)
+    }
+
+    /// The number of the object that is declared next.
+    pub fn next_number(&self) -> Result<u32, NoMemory>
+        ensures { IfOk result (λ number. number ≡ length self.now.objects) }
+    {
+        number_of(self.objects.len())
+    }
+
     /// Declares an object in the innermost block, unless its name is declared there; whether it did.
     pub fn declare(&mut self, alloc: Global, object: Object) -> Result<bool, NoMemory>
         ensures is_new { IfOk result (λ is_new. is_new ≡ spec.is_free_here self.old object.name) }
         ensures ok { OnOk result (self.new ≡ spec.with_local self.old object) }
     {
-        let number = number_of(self.objects.len())?;
+        let number = self.next_number()?;
         let is_new = self.blocks.declare(alloc, &object.name, number)?;
         if is_new {
             self.objects.push(object)?;
         }
         Ok(is_new)
+    }
+
+    /// All objects, whatever blocks are open.
+    pub fn into_objects(self) -> List<Object>
+        ensures { result ≡ self.objects }
+    {
+        let Local {
+            blocks,
+            objects,
+            initialising: _,
+        } = self;
+        drop(blocks);
+        objects
     }
 
     /// The symbol of the object with this number; none where its initialiser is being read.

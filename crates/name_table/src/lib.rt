@@ -1,4 +1,4 @@
-//! Floor 3, program: tables of names with what each means, and scopes one within the other.
+//! Floor 0, ground: tables of names with what each means, and scopes one within the other.
 #![tactic(auto)]
 
 mod laws;

@@ -1,5 +1,5 @@
 // Scopes one within the other (C11 6.2.1).
-ghost use Rattle.std.specs.Prelude.{◌≡◌, [], length, IfOk, OnOk, OnErr};
+ghost use Rattle.std.specs.Prelude.{◌≡◌, [], IfOk, OnOk, OnErr};
 ghost use Rattle.name_table.specs.Names.{is_free};
 ghost use Rattle.name_table.specs.Nesting as spec;
 
@@ -31,13 +31,6 @@ impl<V> Scopes<V> {
         Scopes {
             tables: Vec::new(alloc),
         }
-    }
-
-    /// How many scopes are entered.
-    pub fn len(&self) -> usize
-        ensures { result ≡ length self.now }
-    {
-        self.tables.len()
     }
 }
 
@@ -74,6 +67,17 @@ impl<V: Copy> Scopes<V> {
         }
         let innermost = &mut self.tables[count - 1];
         innermost.declare(alloc, name, meaning)
+    }
+
+    /// Whether a name isn't declared in the innermost scope.
+    pub fn is_free(&self, name: &Str) -> bool
+        ensures { result ≡ is_free (spec.innermost self.now) name.now }
+    {
+        let count = self.tables.len();
+        if count == 0 {
+            return true;
+        }
+        self.tables[count - 1].find(name).is_none()
     }
 
     /// What a name means, from the innermost scope on.

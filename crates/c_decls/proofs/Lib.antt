@@ -1,0 +1,11 @@
+pub mod Turns
+pub mod Sizing
+pub mod Operands
+pub mod Initials
+pub mod Keeping
+pub mod Numbering
+pub mod LayingOut
+pub mod Declaring
+pub mod Once
+pub mod Reading
+pub mod Placing

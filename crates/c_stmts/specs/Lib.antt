@@ -1,0 +1,4 @@
+pub mod Locals
+pub mod Cases
+pub mod Statements
+pub mod Bodies

@@ -1,0 +1,9 @@
+pub mod Shapes
+pub mod TermShapes
+pub mod PredShapes
+pub mod Gathering
+pub mod Hiding
+pub mod Marking
+pub mod Walking
+pub mod Watching
+pub mod Free

@@ -1,0 +1,3 @@
+pub mod Stmt
+pub mod Unit
+pub mod View

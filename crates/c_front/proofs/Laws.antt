@@ -13,10 +13,14 @@ use Rattle.c_parser.specs.Outcome.{Outcome, parsed, SpellsWithin, SpellsPast, Re
 use Rattle.c_parser.specs.Outcome as parser
 use Rattle.c_parser.proofs.Exact.{one_program, Says, outcome_says}
 use Rattle.parse_file.proofs.Parts.{parts}
+use Rattle.c_kinds.specs.declared.models.Machdep.{Machdep}
+use Rattle.typed_unit.specs.Unit.{Typed}
+use Rattle.c_typing.specs.Typing.{typed_program}
+use Rattle.c_answers.specs.Answers.{Answer, Gives}
 use Rattle.core_prog.specs.Tree as t
 use Rattle.core_prog.specs.Names.{is_well_named_program}
 use Rattle.c_core.specs.Core.{core_of}
-use Rattle.c_front.specs.Text.{where_named, built, Spells, HasFault, unlexed, unspelled, past, unbuilt, SpellsOrHasFault}
+use Rattle.c_front.specs.Text.{where_named, built, Spells, HasFault, unlexed, unspelled, past, untyped, unbuilt, SpellsOrHasFault}
 
 same_tokens : (text : List ℕ) (ts us : List Token) → tokens_of text ≡ Ok ts → tokens_of text ≡ Ok us → ts ≡ us
 same_tokens text ts us a b = let same = sym a ∙ b in cc
@@ -28,8 +32,8 @@ not_both text ts r a b = let same = sym a ∙ b in absurd cc
 tree_once : (ts us : List Token) (p q : d.Program) → ts ≡ us → SpellsWithin ts p → SpellsWithin us q → p ≡ q
 tree_once ts us p q same s s' = let s'' = subst (λ ts. SpellsWithin ts q) (sym same) s' in (one_program parts ts p q s.0 s''.0 s.1 s''.1).0
 
-pub spelled_once : (text : List ℕ) (p q : t.Program) → Spells text p → Spells text q → p ≡ q
-spelled_once text p q s s' =
+pub spelled_once : (m : Machdep) (text : List ℕ) (p q : t.Program) → Spells m text p → Spells m text q → p ≡ q
+spelled_once m text p q s s' =
     let same = tree_once s.tokens s'.tokens s.tree s'.tree (same_tokens text s.tokens s'.tokens s.lexed s'.lexed) s.spelled s'.spelled in
     let made : Some p ≡ Some q = sym s.made ∙ ap built same ∙ s'.made in
     cc
@@ -42,11 +46,15 @@ not_past ts us p line same s s' =
     let limit : None ≡ Some line = sym s.2 ∙ ap (past_limit 0) ls ∙ s''.3 in
     absurd cc
 
-pub no_fault : (text : List ℕ) (p : t.Program) (r : Refusal) → Spells text p → HasFault text r → ⊥
-no_fault text p r s (unlexed q e) = not_both text s.tokens q s.lexed e
-no_fault text p r s (unspelled ts line e none u) = none s.tree s.spelled.0 (subst (λ ts. SpellsLines ts s.tree s.spelled.0) (same_tokens text s.tokens ts s.lexed e) s.spelled.1)
-no_fault text p r s (past ts line e over) = not_past s.tokens ts s.tree line (same_tokens text s.tokens ts s.lexed e) s.spelled over
-no_fault text p r s (unbuilt ts tree e within none) =
+pub no_fault : (m : Machdep) (text : List ℕ) (p : t.Program) (r : Refusal) → Spells m text p → HasFault m text r → ⊥
+no_fault m text p r s (unlexed q e) = not_both text s.tokens q s.lexed e
+no_fault m text p r s (unspelled ts line e none u) = none s.tree s.spelled.0 (subst (λ ts. SpellsLines ts s.tree s.spelled.0) (same_tokens text s.tokens ts s.lexed e) s.spelled.1)
+no_fault m text p r s (past ts line e over) = not_past s.tokens ts s.tree line (same_tokens text s.tokens ts s.lexed e) s.spelled over
+no_fault m text p r s (untyped ts tree q e within wrong) =
+    let same = tree_once s.tokens ts s.tree tree (same_tokens text s.tokens ts s.lexed e) s.spelled within in
+    let typed : Ok s.typed ≡ Err q = sym s.types ∙ ap (typed_program m) same ∙ wrong in
+    absurd cc
+no_fault m text p r s (unbuilt ts tree typed e within types none) =
     let same = tree_once s.tokens ts s.tree tree (same_tokens text s.tokens ts s.lexed e) s.spelled within in
     let made : Some p ≡ None = sym s.made ∙ ap built same ∙ none in
     absurd cc
@@ -75,70 +83,102 @@ past_once ts line line' s s' =
     let limit : Some line ≡ Some line' = sym s.3 ∙ ap (past_limit 0) ls ∙ s'.3 in
     cc
 
-pub one_fault : (text : List ℕ) (r q : Refusal) → HasFault text r → HasFault text q → r ≡ q
-one_fault text r q (unlexed r' e) (unlexed q' e') = let same = sym e ∙ e' in cc
-one_fault text r q (unlexed r' e) (unspelled ts line e' none u) = absurd (not_both text ts r' e' e)
-one_fault text r q (unlexed r' e) (past ts line e' over) = absurd (not_both text ts r' e' e)
-one_fault text r q (unlexed r' e) (unbuilt ts tree e' within none) = absurd (not_both text ts r' e' e)
-one_fault text r q (unspelled ts line e none u) (unlexed q' e') = absurd (not_both text ts q' e e')
-one_fault text r q (unspelled ts line e none u) (unspelled ts' line' e' none' u') =
+pub one_fault : (m : Machdep) (text : List ℕ) (r q : Refusal) → HasFault m text r → HasFault m text q → r ≡ q
+one_fault m text r q (unlexed r' e) (unlexed q' e') = let same = sym e ∙ e' in cc
+one_fault m text r q (unlexed r' e) (unspelled ts line e' none u) = absurd (not_both text ts r' e' e)
+one_fault m text r q (unlexed r' e) (past ts line e' over) = absurd (not_both text ts r' e' e)
+one_fault m text r q (unlexed r' e) (unbuilt ts tree ty e' within types none) = absurd (not_both text ts r' e' e)
+one_fault m text r q (unspelled ts line e none u) (unlexed q' e') = absurd (not_both text ts q' e e')
+one_fault m text r q (unspelled ts line e none u) (unspelled ts' line' e' none' u') =
     ap (λ (n : ℕ). record { rule = rule.Syntax; line = n }) (line_once ts line line' u (subst (λ ts. IsUnspelledOn ts line') (same_tokens text ts' ts e' e) u'))
-one_fault text r q (unspelled ts line e none u) (past ts' line' e' over) =
+one_fault m text r q (unspelled ts line e none u) (past ts' line' e' over) =
     let here = subst (λ ts. SpellsPast ts line') (same_tokens text ts' ts e' e) over in
     absurd (none here.0 here.1 here.2)
-one_fault text r q (unspelled ts line e none u) (unbuilt ts' tree e' within unmade) =
+one_fault m text r q (unspelled ts line e none u) (unbuilt ts' tree ty e' within types unmade) =
     let here = subst (λ ts. SpellsWithin ts tree) (same_tokens text ts' ts e' e) within in
     absurd (none tree here.0 here.1)
-one_fault text r q (past ts line e over) (unlexed q' e') = absurd (not_both text ts q' e e')
-one_fault text r q (past ts line e over) (unspelled ts' line' e' none u) =
+one_fault m text r q (past ts line e over) (unlexed q' e') = absurd (not_both text ts q' e e')
+one_fault m text r q (past ts line e over) (unspelled ts' line' e' none u) =
     let here = subst (λ ts. SpellsPast ts line) (same_tokens text ts ts' e e') over in
     absurd (none here.0 here.1 here.2)
-one_fault text r q (past ts line e over) (past ts' line' e' over') =
+one_fault m text r q (past ts line e over) (past ts' line' e' over') =
     ap (λ (n : ℕ). record { rule = rule.Limit; line = n }) (past_once ts line line' over (subst (λ ts. SpellsPast ts line') (same_tokens text ts' ts e' e) over'))
-one_fault text r q (past ts line e over) (unbuilt ts' tree e' within none) = absurd (not_past ts' ts tree line (same_tokens text ts' ts e' e) within over)
-one_fault text r q (unbuilt ts tree e within none) (unlexed q' e') = absurd (not_both text ts q' e e')
-one_fault text r q (unbuilt ts tree e within none) (unspelled ts' line' e' none' u) =
+one_fault m text r q (past ts line e over) (unbuilt ts' tree ty e' within types none) = absurd (not_past ts' ts tree line (same_tokens text ts' ts e' e) within over)
+one_fault m text r q (unbuilt ts tree ty e within types none) (unlexed q' e') = absurd (not_both text ts q' e e')
+one_fault m text r q (unbuilt ts tree ty e within types none) (unspelled ts' line' e' none' u) =
     let here = subst (λ ts. SpellsWithin ts tree) (same_tokens text ts ts' e e') within in
     absurd (none' tree here.0 here.1)
-one_fault text r q (unbuilt ts tree e within none) (past ts' line' e' over) = absurd (not_past ts ts' tree line' (same_tokens text ts ts' e e') within over)
-one_fault text r q (unbuilt ts tree e within none) (unbuilt ts' tree' e' within' none') = refl
+one_fault m text r q (unbuilt ts tree ty e within types none) (past ts' line' e' over) = absurd (not_past ts ts' tree line' (same_tokens text ts ts' e e') within over)
+one_fault m text r q (unbuilt ts tree ty e within types none) (unbuilt ts' tree' ty' e' within' types' none') = refl
+one_fault m text r q (unlexed r' e) (untyped ts tree q' e' within wrong) = absurd (not_both text ts r' e' e)
+one_fault m text r q (unspelled ts line e none u) (untyped ts' tree q' e' within wrong) =
+    let here = subst (λ ts. SpellsWithin ts tree) (same_tokens text ts' ts e' e) within in
+    absurd (none tree here.0 here.1)
+one_fault m text r q (past ts line e over) (untyped ts' tree q' e' within wrong) = absurd (not_past ts' ts tree line (same_tokens text ts' ts e' e) within over)
+one_fault m text r q (untyped ts tree r' e within wrong) (unlexed q' e') = absurd (not_both text ts q' e e')
+one_fault m text r q (untyped ts tree r' e within wrong) (unspelled ts' line' e' none' u) =
+    let here = subst (λ ts. SpellsWithin ts tree) (same_tokens text ts ts' e e') within in
+    absurd (none' tree here.0 here.1)
+one_fault m text r q (untyped ts tree r' e within wrong) (past ts' line' e' over) = absurd (not_past ts ts' tree line' (same_tokens text ts ts' e e') within over)
+one_fault m text r q (untyped ts tree r' e within wrong) (untyped ts' tree' q' e' within' wrong') =
+    let same = tree_once ts ts' tree tree' (same_tokens text ts ts' e e') within within' in
+    let both : Err r' ≡ Err q' = sym wrong ∙ ap (typed_program m) same ∙ wrong' in
+    cc
+one_fault m text r q (untyped ts tree r' e within wrong) (unbuilt ts' tree' ty e' within' types none) =
+    let same = tree_once ts ts' tree tree' (same_tokens text ts ts' e e') within within' in
+    let both : Err r' ≡ Ok ty = sym wrong ∙ ap (typed_program m) same ∙ types in
+    absurd cc
+one_fault m text r q (unbuilt ts tree ty e within types none) (untyped ts' tree' q' e' within' wrong) =
+    let same = tree_once ts ts' tree tree' (same_tokens text ts ts' e e') within within' in
+    let both : Ok ty ≡ Err q' = sym types ∙ ap (typed_program m) same ∙ wrong in
+    absurd cc
 
 -- ---- a program or a fault
 
-by_tree : (text : List ℕ) (ts : List Token) (tree : d.Program) → tokens_of text ≡ Ok ts → SpellsWithin ts tree → (made : Option t.Program) → built tree ≡ made → SpellsOrHasFault text
-by_tree text ts tree e within (Some p) is = inl (p, record { tokens = ts; tree = tree; lexed = e; spelled = within; made = is })
-by_tree text ts tree e within None none = inr (record { rule = rule.Unbuilt; line = 1 }, unbuilt ts tree e within none)
+by_made : (m : Machdep) (text : List ℕ) (ts : List Token) (tree : d.Program) (ty : Typed) → tokens_of text ≡ Ok ts → SpellsWithin ts tree → typed_program m tree ≡ Ok ty → (made : Option t.Program) → built tree ≡ made → SpellsOrHasFault m text
+by_made m text ts tree ty e within types (Some p) is = inl (p, record { tokens = ts; tree = tree; lexed = e; spelled = within; typed = ty; types = types; made = is })
+by_made m text ts tree ty e within types None none = inr (record { rule = rule.Unbuilt; line = 1 }, unbuilt ts tree ty e within types none)
 
-by_outcome : (text : List ℕ) (ts : List Token) → tokens_of text ≡ Ok ts → (given : Outcome) → Says ts given → SpellsOrHasFault text
-by_outcome text ts e (parsed tree) says = by_tree text ts tree e says (built tree) refl
-by_outcome text ts e (parser.unspelled line) says = inr (record { rule = rule.Syntax; line = line }, unspelled ts line e says.0 says.1)
-by_outcome text ts e (parser.past line) says = inr (record { rule = rule.Limit; line = line }, past ts line e says)
+by_tree : (m : Machdep) (text : List ℕ) (ts : List Token) (tree : d.Program) → tokens_of text ≡ Ok ts → SpellsWithin ts tree → (given : Answer Typed) → typed_program m tree ≡ given → SpellsOrHasFault m text
+by_tree m text ts tree e within (Ok ty) is = by_made m text ts tree ty e within is (built tree) refl
+by_tree m text ts tree e within (Err r) is = inr (r, untyped ts tree r e within is)
 
-by_tokens : (text : List ℕ) (given : Result (List Token) Refusal) → tokens_of text ≡ given → SpellsOrHasFault text
-by_tokens text (Ok ts) e = by_outcome text ts e (outcome ts) (outcome_says parts ts)
-by_tokens text (Err r) e = inr (r, unlexed r e)
+by_outcome : (m : Machdep) (text : List ℕ) (ts : List Token) → tokens_of text ≡ Ok ts → (given : Outcome) → Says ts given → SpellsOrHasFault m text
+by_outcome m text ts e (parsed tree) says = by_tree m text ts tree e says (typed_program m tree) refl
+by_outcome m text ts e (parser.unspelled line) says = inr (record { rule = rule.Syntax; line = line }, unspelled ts line e says.0 says.1)
+by_outcome m text ts e (parser.past line) says = inr (record { rule = rule.Limit; line = line }, past ts line e says)
 
-pub program_or_fault : (text : List ℕ) → SpellsOrHasFault text
-program_or_fault text = by_tokens text (tokens_of text) refl
+by_tokens : (m : Machdep) (text : List ℕ) (given : Result (List Token) Refusal) → tokens_of text ≡ given → SpellsOrHasFault m text
+by_tokens m text (Ok ts) e = by_outcome m text ts e (outcome ts) (outcome_says parts ts)
+by_tokens m text (Err r) e = inr (r, unlexed r e)
+
+pub program_or_fault : (m : Machdep) (text : List ℕ) → SpellsOrHasFault m text
+program_or_fault m text = by_tokens m text (tokens_of text) refl
 
 -- ---- what the code answers
 
 pub read_tokens : (text : List ℕ) (result : Result (List Token) Stop) (ts : List Token) → MatchResult result (λ ts. tokens_of text ≡ Ok ts) (λ stop. StopsWith stop (tokens_of text)) → result ≡ Ok ts → tokens_of text ≡ Ok ts
 read_tokens text result ts given is = subst (λ (x : Result (List Token) Stop). MatchResult x (λ ts. tokens_of text ≡ Ok ts) (λ stop. StopsWith stop (tokens_of text))) is given
 
-pub lexing_refused : (text : List ℕ) (end : Stop) (r : Refusal) → end ≡ stop.Refused r → StopsWith end (tokens_of text) → HasFault text r
-lexing_refused text end r is given = unlexed r (subst (λ end. StopsWith end (tokens_of text)) is given)
+pub lexing_refused : (m : Machdep) (text : List ℕ) (end : Stop) (r : Refusal) → end ≡ stop.Refused r → StopsWith end (tokens_of text) → HasFault m text r
+lexing_refused m text end r is given = unlexed r (subst (λ end. StopsWith end (tokens_of text)) is given)
 
-pub parsing_refused : (text : List ℕ) (ts : List Token) (r : Refusal) → tokens_of text ≡ Ok ts → Refuses ts r → HasFault text r
-parsing_refused text ts r e (inl s) =
+pub parsing_refused : (m : Machdep) (text : List ℕ) (ts : List Token) (r : Refusal) → tokens_of text ≡ Ok ts → Refuses ts r → HasFault m text r
+parsing_refused m text ts r e (inl s) =
     let is : r ≡ record { rule = rule.Syntax; line = r.line } = ap (λ (x : Rule). record { rule = x; line = r.line }) s.0 in
-    subst (HasFault text) (sym is) (unspelled ts r.line e s.1 s.2)
-parsing_refused text ts r e (inr s) =
+    subst (HasFault m text) (sym is) (unspelled ts r.line e s.1 s.2)
+parsing_refused m text ts r e (inr s) =
     let is : r ≡ record { rule = rule.Limit; line = r.line } = ap (λ (x : Rule). record { rule = x; line = r.line }) s.0 in
-    subst (HasFault text) (sym is) (past ts r.line e s.1)
+    subst (HasFault m text) (sym is) (past ts r.line e s.1)
 
-pub not_built : (text : List ℕ) (ts : List Token) (p : d.Program) (r : Refusal) → tokens_of text ≡ Ok ts → SpellsWithin ts p → built p ≡ None → record { rule = rule.Unbuilt; line = 1 } ≡ r → HasFault text r
-not_built text ts p r e within none is = subst (HasFault text) is (unbuilt ts p e within none)
+pub typing_refused : (m : Machdep) (text : List ℕ) (ts : List Token) (p : d.Program) (r : Refusal) {X : Type 0} (see : X → Typed) (end : Stop) → tokens_of text ≡ Ok ts → SpellsWithin ts p → Gives see (Err end) (typed_program m p) → end ≡ stop.Refused r
+    → HasFault m text r
+typing_refused m text ts p r see (stop.Refused q) e within given is = let same : q ≡ r = cc in subst (HasFault m text) same (untyped ts p q e within given)
+typing_refused m text ts p r see stop.NoMemory e within given is = absurd cc
+
+pub not_built : (m : Machdep) (text : List ℕ) (ts : List Token) (p : d.Program) (ty : Typed) (r : Refusal) → tokens_of text ≡ Ok ts → SpellsWithin ts p → typed_program m p ≡ Ok ty → built p ≡ None → record { rule = rule.Unbuilt; line = 1 } ≡ r
+    → HasFault m text r
+not_built m text ts p ty r e within types none is = subst (HasFault m text) is (unbuilt ts p ty e within types none)
 
 -- the names of a program that is built are in order
 named_in : (o : Option t.Program) (p : t.Program) → where_named o ≡ Some p → is_well_named_program p ≡ true
@@ -148,5 +188,5 @@ named_in (Some q) p e = named_if (is_well_named_program q) refl e where
   named_if true is e = let same : q ≡ p = cc in ap is_well_named_program (sym same) ∙ is
   named_if false is e = absurd cc
 
-pub core_named : (text : List ℕ) (p : t.Program) → Spells text p → is_well_named_program p ≡ true
-core_named text p s = named_in (core_of s.tree) p s.made
+pub core_named : (m : Machdep) (text : List ℕ) (p : t.Program) → Spells m text p → is_well_named_program p ≡ true
+core_named m text p s = named_in (core_of s.tree) p s.made

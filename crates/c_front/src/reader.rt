@@ -9,9 +9,11 @@ ghost use Rattle.c_front.specs.Text as spec;
 ghost use Rattle.c_front.specs.Text.{HasFault, Spells, SpellsOrHasFault};
 
 use c_core::{Unmade, core_of};
+use c_kinds::Machdep;
 use c_lexer::lex;
 use c_parser::parse;
 use c_syntax::Program;
+use c_typing::type_program;
 use core_names::are_well_named;
 use core_prog::Core;
 use std::alloc::Global;
@@ -28,16 +30,17 @@ fn built(alloc: Global, program: &Program) -> Result<Core, Unmade>
     Ok(core)
 }
 
-/// Reads a text: the program that is to be verified, or the fault of the text.
-pub fn read_program(alloc: Global, text: &[u8]) -> Result<Core, Stop>
+/// Reads a text with this data model: the program that is to be verified, or the fault of the text.
+pub fn read_program(alloc: Global, model: Machdep, text: &[u8]) -> Result<Core, Stop>
     requires { length text.now ≤ most_bytes }
     // What is read is what the text spells.
-    ensures spelled { IfOk result (λ core. Spells text.now (view_program core)) }
+    ensures spelled { IfOk result (λ core. Spells model text.now (view_program core)) }
     // A text is refused by its fault.
-    ensures refused { (r : Refusal) → result ≡ Err (Stop.Refused r) → HasFault text.now r }
+    ensures refused { (r : Refusal) → result ≡ Err (Stop.Refused r) → HasFault model text.now r }
 {
     let tokens = lex(alloc, text)?;
     let program = parse(alloc, &tokens)?;
+    type_program(alloc, &program, model)?;
     match built(alloc, &program) {
         Ok(core) => Ok(core),
         Err(Unmade::Unbuilt) => Err(Stop::Refused(Refusal {
@@ -50,20 +53,20 @@ pub fn read_program(alloc: Global, text: &[u8]) -> Result<Core, Stop>
 
 /// Which program a text spells is determined.
 pub fn spelled_once()
-    ensures { (text : List ℕ) → (p q : t.Program) → Spells text p → Spells text q → p ≡ q }
+    ensures { (m : Machdep) → (text : List ℕ) → (p q : t.Program) → Spells m text p → Spells m text q → p ≡ q }
 {}
 
 /// A text that spells a program has no fault, so it is read unless memory runs out.
 pub fn spelled_has_no_fault()
-    ensures { (text : List ℕ) → (p : t.Program) → (r : Refusal) → Spells text p → HasFault text r → ⊥ }
+    ensures { (m : Machdep) → (text : List ℕ) → (p : t.Program) → (r : Refusal) → Spells m text p → HasFault m text r → ⊥ }
 {}
 
 /// A text has one fault at most.
 pub fn one_fault()
-    ensures { (text : List ℕ) → (r s : Refusal) → HasFault text r → HasFault text s → r ≡ s }
+    ensures { (m : Machdep) → (text : List ℕ) → (r s : Refusal) → HasFault m text r → HasFault m text s → r ≡ s }
 {}
 
 /// Each text spells a program that is built, or has a fault.
 pub fn program_or_fault()
-    ensures { (text : List ℕ) → SpellsOrHasFault text }
+    ensures { (m : Machdep) → (text : List ℕ) → SpellsOrHasFault m text }
 {}

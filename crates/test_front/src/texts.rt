@@ -8,6 +8,7 @@ use crate::programs::write_core;
 use crate::told::tell_stop;
 use c_core::{Unmade, core_of};
 use c_front::read_program;
+use c_kinds::Machdep;
 use c_parser::parse;
 use c_syntax::{Program, Token, TokenKind, Tokens};
 use std::alloc::Global;
@@ -79,7 +80,7 @@ pub fn reads_all(alloc: Global, page: &mut Page, reader: &str, tokens: &Tokens) 
 pub fn tell_front(alloc: Global, page: &mut Page, text: &[u8])
     requires { length text.now ≤ 1048576 }
 {
-    match read_program(alloc, text) {
+    match read_program(alloc, Machdep::X86_64, text) {
         Ok(core) => {
             page.put(" functions ");
             page.put_number(core.functions.len());

@@ -7,6 +7,7 @@ use Rattle.std.proofs.lemmas.Bool.{false≢true, and_parts}
 use Rattle.wp_base.specs.declared.answers.Refusal.{Refusal}
 use Rattle.wp_base.specs.declared.answers.Status.{Status}
 use Rattle.wp_base.specs.declared.answers.Status.TheVariants as status
+use Rattle.c_kinds.specs.declared.models.Machdep.{Machdep}
 use Rattle.c_lexer.specs.Tokens.{most_bytes}
 use Rattle.qed_terms.specs.declared.verdict.Verdict.{Verdict}
 use Rattle.qed_terms.specs.declared.verdict.Verdict.TheVariants as verdict
@@ -24,7 +25,7 @@ use Rattle.wp_calculus.proofs.Exact.{goals_are_exact, failures_have_goals}
 use Rattle.wp_calculus.proofs.Runs.{segments_to_runs}
 use Rattle.wp_cli.specs.Report.{Judged, Reported, is_proved, goals_proved}
 use Rattle.wp_cli.specs.Answers.{IsProved, IsVerdict, IsJudged, AreJudged, IsReported, IsReportOf, HasFault, too_long, faulty, Answers, proved, unknown, refused}
-use Rattle.wp_cli.specs.Command.{Command, command_of, asks, shows_goals}
+use Rattle.wp_words.specs.Command.{Command, command_of, asks, model_of, shows_goals, model_asked}
 use Rattle.wp_cli.proofs.Judging.{each_at, partner_at}
 use Rattle.wp_cli.specs.Top.{told, IsRead, AnswersFile, WritesAnswer, Claims, ProvedGoalsAreValid, ProvedFunctionsAreCorrect, GoalsAreExactIn, IsAnsweredBy}
 
@@ -75,54 +76,58 @@ exact p rs w i j f g m n = goals_are_exact f (well_named p i f w m) j g n
 
 -- ---- the clauses of the top call
 
-claims : (shows : Bool) (text : List ℕ) (p : Program) (rs : List Reported) → Spells text p → IsReportOf shows p rs → Claims p rs
-claims shows text p rs spelled judged = record { valid = valid shows p rs judged; correct = correct shows p rs (core_named text p spelled) judged; exact = exact p rs (core_named text p spelled) }
+claims : (m : Machdep) (shows : Bool) (text : List ℕ) (p : Program) (rs : List Reported) → Spells m text p → IsReportOf shows p rs → Claims p rs
+claims m shows text p rs spelled judged = record { valid = valid shows p rs judged; correct = correct shows p rs (core_named m text p spelled) judged; exact = exact p rs (core_named m text p spelled) }
 
 -- an answer that was written whole is a report whose claims are so, or a refusal
-pub answer_written : (shows : Bool) (told before after : Option (List ℕ)) (result : Status) (bytes : List ℕ) → AnswersFile shows told result bytes → Appends before after bytes → WritesAnswer shows told before after result
-answer_written shows told before after result bytes file written = by result bytes file.answer written
+pub answer_written : (m : Machdep) (shows : Bool) (told before after : Option (List ℕ)) (result : Status) (bytes : List ℕ) → AnswersFile m shows told result bytes → Appends before after bytes → WritesAnswer m shows told before after result
+answer_written m shows told before after result bytes file written = by result bytes file.answer written
   where
-    by : (result : Status) (bytes : List ℕ) → Answers shows file.text result bytes → Appends before after bytes → WritesAnswer shows told before after result
+    by : (result : Status) (bytes : List ℕ) → Answers m shows file.text result bytes → Appends before after bytes → WritesAnswer m shows told before after result
     by result bytes (proved p rs within spelled judged all) w =
-        record { text = file.text; read = file.read; within = within; program = p; spelled = spelled; report = rs; judged = judged; all = all; written = w; claims = claims shows file.text p rs spelled judged }
+        record { text = file.text; read = file.read; within = within; program = p; spelled = spelled; report = rs; judged = judged; all = all; written = w; claims = claims m shows file.text p rs spelled judged }
     by result bytes (unknown p rs within spelled judged all) w =
-        record { text = file.text; read = file.read; within = within; program = p; spelled = spelled; report = rs; judged = judged; all = all; written = w; claims = claims shows file.text p rs spelled judged }
+        record { text = file.text; read = file.read; within = within; program = p; spelled = spelled; report = rs; judged = judged; all = all; written = w; claims = claims m shows file.text p rs spelled judged }
     by result bytes (refused r fault) w = record { text = file.text; read = file.read; fault = r; broken = fault; written = w }
 
-no_fault : (text : List ℕ) (p : Program) (r : Refusal) → length text ≤ most_bytes → Spells text p → HasFault text r → ⊥
-no_fault text p r within spelled (too_long more) = omega (arith, within, more)
-no_fault text p r within spelled (faulty x le fault) = none_faulty text p x spelled fault
+no_fault : (m : Machdep) (text : List ℕ) (p : Program) (r : Refusal) → length text ≤ most_bytes → Spells m text p → HasFault m text r → ⊥
+no_fault m text p r within spelled (too_long more) = omega (arith, within, more)
+no_fault m text p r within spelled (faulty x le fault) = none_faulty m text p x spelled fault
 
-answered_by : (shows : Bool) (text : List ℕ) (result : Status) (bytes : List ℕ) → Answers shows text result bytes → IsAnsweredBy text result
-answered_by shows text result bytes (proved p rs within spelled judged all) = record { every = inl tt; spelled = λ p w s. inl (inl refl); faulty = λ r fault. absurd (no_fault text p r within spelled fault) }
-answered_by shows text result bytes (unknown p rs within spelled judged all) = record { every = inl tt; spelled = λ p w s. inl (inr refl); faulty = λ r fault. absurd (no_fault text p r within spelled fault) }
-answered_by shows text result bytes (refused r fault) = record { every = inl tt; spelled = λ p w s. absurd (no_fault text p r w s fault); faulty = λ r fault. inl refl }
+answered_by : (m : Machdep) (shows : Bool) (text : List ℕ) (result : Status) (bytes : List ℕ) → Answers m shows text result bytes → IsAnsweredBy m text result
+answered_by m shows text result bytes (proved p rs within spelled judged all) = record { every = inl tt; spelled = λ p w s. inl (inl refl); faulty = λ r fault. absurd (no_fault m text p r within spelled fault) }
+answered_by m shows text result bytes (unknown p rs within spelled judged all) = record { every = inl tt; spelled = λ p w s. inl (inr refl); faulty = λ r fault. absurd (no_fault m text p r within spelled fault) }
+answered_by m shows text result bytes (refused r fault) = record { every = inl tt; spelled = λ p w s. absurd (no_fault m text p r w s fault); faulty = λ r fault. inl refl }
 
 -- a text that is told is the one that was read
-pub file_answered : (shows : Bool) (told : Option (List ℕ)) (text : List ℕ) (result : Status) (bytes : List ℕ) → told ≡ Some text → AnswersFile shows told result bytes → IsAnsweredBy text result
-file_answered shows told text result bytes is file =
+pub file_answered : (m : Machdep) (shows : Bool) (told : Option (List ℕ)) (text : List ℕ) (result : Status) (bytes : List ℕ) → told ≡ Some text → AnswersFile m shows told result bytes → IsAnsweredBy m text result
+file_answered m shows told text result bytes is file =
     let read : text ≡ file.text = subst (λ (t : Option (List ℕ)). IsRead t file.text) is file.read in
-    subst (λ t. IsAnsweredBy t result) (sym read) (answered_by shows file.text result bytes file.answer)
+    subst (λ t. IsAnsweredBy m t result) (sym read) (answered_by m shows file.text result bytes file.answer)
 
--- what is told of the file that the words name, and whether they ask for goals
+-- what is told of the file that the words name, and what they ask for
 pub told_named : {Self : Type 0} (holds : Self → List ℕ → Option (List ℕ)) (files : Self) (words : List (List ℕ)) (c : Command) → command_of words ≡ Some c → told holds files words ≡ holds files c.file
 told_named holds files words c is = ap (λ (o : Option Command). option_and_then (λ name. holds files name) (option_map (λ (c : Command). c.file) o)) is
 
 pub asks_named : (words : List (List ℕ)) (c : Command) → command_of words ≡ Some c → shows_goals words ≡ c.shows_goals
 asks_named words c is = ap asks is
 
+pub model_named : (words : List (List ℕ)) (c : Command) → command_of words ≡ Some c → model_asked words ≡ c.model
+model_named words c is = ap model_of is
+
 -- the answer to the file of a command is that to its words
 pub words_answered : {Self : Type 0} (holds : Self → List ℕ → Option (List ℕ)) (files : Self) (words : List (List ℕ)) (c : Command) (result : Status) (bytes : List ℕ) → command_of words ≡ Some c
-    → AnswersFile c.shows_goals (holds files c.file) result bytes → AnswersFile (shows_goals words) (told holds files words) result bytes
+    → AnswersFile c.model c.shows_goals (holds files c.file) result bytes → AnswersFile (model_asked words) (shows_goals words) (told holds files words) result bytes
 words_answered holds files words c result bytes is file =
-    subst (λ b. AnswersFile b (told holds files words) result bytes) (sym (asks_named words c is))
-    (subst (λ (t : Option (List ℕ)). AnswersFile c.shows_goals t result bytes) (sym (told_named holds files words c is)) file)
+    subst (λ m. AnswersFile m (shows_goals words) (told holds files words) result bytes) (sym (model_named words c is))
+    (subst (λ b. AnswersFile c.model b (told holds files words) result bytes) (sym (asks_named words c is))
+    (subst (λ (t : Option (List ℕ)). AnswersFile c.model c.shows_goals t result bytes) (sym (told_named holds files words c is)) file))
 
 -- no answer ends in a fault of writing
-pub no_write_fault : (shows : Bool) (told : Option (List ℕ)) (result : Status) (bytes : List ℕ) → AnswersFile shows told result bytes → result ≡ status.WriteFault → ⊥
-no_write_fault shows told result bytes file = by result bytes file.answer
+pub no_write_fault : (m : Machdep) (shows : Bool) (told : Option (List ℕ)) (result : Status) (bytes : List ℕ) → AnswersFile m shows told result bytes → result ≡ status.WriteFault → ⊥
+no_write_fault m shows told result bytes file = by result bytes file.answer
   where
-    by : (result : Status) (bytes : List ℕ) → Answers shows file.text result bytes → result ≡ status.WriteFault → ⊥
+    by : (result : Status) (bytes : List ℕ) → Answers m shows file.text result bytes → result ≡ status.WriteFault → ⊥
     by result bytes (proved p rs within spelled judged all) e = cc
     by result bytes (unknown p rs within spelled judged all) e = cc
     by result bytes (refused r fault) e = cc

@@ -4,6 +4,7 @@ use Rattle.wp_base.specs.declared.answers.Refusal.{Refusal}
 use Rattle.wp_base.specs.declared.answers.Rule.TheVariants as rule
 use Rattle.wp_base.specs.declared.answers.Status.{Status}
 use Rattle.wp_base.specs.declared.answers.Status.TheVariants as status
+use Rattle.c_kinds.specs.declared.models.Machdep.{Machdep}
 use Rattle.c_lexer.specs.Tokens.{most_bytes}
 use Rattle.qed_terms.specs.declared.verdict.Verdict.{Verdict}
 use Rattle.qed_terms.specs.declared.verdict.Verdict.TheVariants as verdict
@@ -63,15 +64,16 @@ IsReportOf shows = EachIsSo (IsReported shows)
 
 -- ---- faults of a text
 
--- The one fault of a text: it is too long, which is said of line 1, or it has a fault of tokens, of grammar, of a limit, or isn't built.
-pub data HasFault (text : List ℕ) : Refusal → Type 0 where
-  too_long : most_bytes < length text → HasFault text (record { rule = rule.Limit; line = 1 })
-  faulty : (r : Refusal) → length text ≤ most_bytes → front.HasFault text r → HasFault text r
+-- The one fault of a text with this data model: it is too long, which is said of line 1, or it has a fault of tokens, of grammar, of a limit, of names
+-- and types, or isn't built.
+pub data HasFault (m : Machdep) (text : List ℕ) : Refusal → Type 0 where
+  too_long : most_bytes < length text → HasFault m text (record { rule = rule.Limit; line = 1 })
+  faulty : (r : Refusal) → length text ≤ most_bytes → front.HasFault m text r → HasFault m text r
 
 -- ---- answers
 
--- the status and the bytes that answer a text, with goals shown or not
-pub data Answers (shows : Bool) (text : List ℕ) : Status → List ℕ → Type 0 where
-  proved : (p : Program) (rs : List Reported) → length text ≤ most_bytes → Spells text p → IsReportOf shows p rs → all_proved rs ≡ true → Answers shows text status.AllProved (report_text rs)
-  unknown : (p : Program) (rs : List Reported) → length text ≤ most_bytes → Spells text p → IsReportOf shows p rs → all_proved rs ≡ false → Answers shows text status.SomeUnknown (report_text rs)
-  refused : (r : Refusal) → HasFault text r → Answers shows text status.Refused (refusal_line r)
+-- the status and the bytes that answer a text with this data model, with goals shown or not
+pub data Answers (m : Machdep) (shows : Bool) (text : List ℕ) : Status → List ℕ → Type 0 where
+  proved : (p : Program) (rs : List Reported) → length text ≤ most_bytes → Spells m text p → IsReportOf shows p rs → all_proved rs ≡ true → Answers m shows text status.AllProved (report_text rs)
+  unknown : (p : Program) (rs : List Reported) → length text ≤ most_bytes → Spells m text p → IsReportOf shows p rs → all_proved rs ≡ false → Answers m shows text status.SomeUnknown (report_text rs)
+  refused : (r : Refusal) → HasFault m text r → Answers m shows text status.Refused (refusal_line r)

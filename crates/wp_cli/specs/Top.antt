@@ -6,6 +6,7 @@ use Rattle.wp_base.specs.declared.answers.Status.{Status}
 use Rattle.wp_base.specs.declared.answers.Status.TheVariants as status
 use Rattle.wp_io.specs.Reads.{TakesMore}
 use Rattle.wp_io.specs.Writes.{TakesFront}
+use Rattle.c_kinds.specs.declared.models.Machdep.{Machdep}
 use Rattle.c_lexer.specs.Tokens.{most_bytes}
 use Rattle.qed_terms.specs.declared.verdict.Verdict.TheVariants as verdict
 use Rattle.qed_terms.specs.Setting.{Valid}
@@ -15,7 +16,7 @@ use Rattle.wp_calculus.specs.Machine.{IsCorrect}
 use Rattle.wp_calculus.specs.Goals.{Goal, goals, formula_of}
 use Rattle.wp_calculus.specs.Theorems.{plain_setting, IsExact}
 use Rattle.wp_cli.specs.Report.{Judged, Reported, all_proved, goals_proved, refusal_line, report_text}
-use Rattle.wp_cli.specs.Command.{file_named}
+use Rattle.wp_words.specs.Command.{file_named}
 use Rattle.wp_cli.specs.Answers.{Answers, HasFault, IsReportOf}
 
 -- what the file that the words name holds, where the words are a command and that is told
@@ -39,17 +40,17 @@ ReadsEnough status.SomeUnknown told left = IsAtEnd left
 ReadsEnough status.Refused told left = IsAtEnd left ⊎ TookTooMuch told left
 ReadsEnough _ told left = Unit {0}
 
--- the answer to the text that was read, with goals shown or not
-pub record AnswersFile (shows : Bool) (told : Option (List ℕ)) (result : Status) (bytes : List ℕ) : Type 0 where
+-- the answer to the text that was read, with this data model, and with goals shown or not
+pub record AnswersFile (m : Machdep) (shows : Bool) (told : Option (List ℕ)) (result : Status) (bytes : List ℕ) : Type 0 where
   pub text : List ℕ
   pub read : IsRead told text
-  pub answer : Answers shows text result bytes
+  pub answer : Answers m shows text result bytes
 
 -- a front of an answer was written, and not the whole
-pub record WritesFront (shows : Bool) (told before after : Option (List ℕ)) : Type 0 where
+pub record WritesFront (m : Machdep) (shows : Bool) (told before after : Option (List ℕ)) : Type 0 where
   pub result : Status
   pub bytes : List ℕ
-  pub answered : AnswersFile shows told result bytes
+  pub answered : AnswersFile m shows told result bytes
   pub written : TakesFront before after bytes
 
 -- ---- what the report says of the program
@@ -77,12 +78,12 @@ pub record Claims (p : Program) (rs : List Reported) : Type 0 where
 -- ---- what was written
 
 -- The report of the program that the text spells was written whole, and what it claims of the program is so. `every`: each verdict in it is proved.
-pub record WritesReport (shows : Bool) (told before after : Option (List ℕ)) (every : Bool) : Type 0 where
+pub record WritesReport (m : Machdep) (shows : Bool) (told before after : Option (List ℕ)) (every : Bool) : Type 0 where
   pub text : List ℕ
   pub read : IsRead told text
   pub within : length text ≤ most_bytes
   pub program : Program
-  pub spelled : Spells text program
+  pub spelled : Spells m text program
   pub report : List Reported
   pub judged : IsReportOf shows program report
   pub all : all_proved report ≡ every
@@ -90,19 +91,19 @@ pub record WritesReport (shows : Bool) (told before after : Option (List ℕ)) (
   pub claims : Claims program report
 
 -- the line of the text's fault was written whole
-pub record WritesRefusal (told before after : Option (List ℕ)) : Type 0 where
+pub record WritesRefusal (m : Machdep) (told before after : Option (List ℕ)) : Type 0 where
   pub text : List ℕ
   pub read : IsRead told text
   pub fault : Refusal
-  pub broken : HasFault text fault
+  pub broken : HasFault m text fault
   pub written : Appends before after (refusal_line fault)
 
 -- by its status, what a call has written
-abbrev pub WritesAnswer : (shows : Bool) → (told before after : Option (List ℕ)) → Status → Type 0
-WritesAnswer shows told before after status.AllProved = WritesReport shows told before after true
-WritesAnswer shows told before after status.SomeUnknown = WritesReport shows told before after false
-WritesAnswer shows told before after status.Refused = WritesRefusal told before after
-WritesAnswer shows told before after _ = Unit {0}
+abbrev pub WritesAnswer : Machdep → (shows : Bool) → (told before after : Option (List ℕ)) → Status → Type 0
+WritesAnswer m shows told before after status.AllProved = WritesReport m shows told before after true
+WritesAnswer m shows told before after status.SomeUnknown = WritesReport m shows told before after false
+WritesAnswer m shows told before after status.Refused = WritesRefusal m told before after
+WritesAnswer m shows told before after _ = Unit {0}
 
 -- ---- what is answered to a text that is told
 
@@ -114,7 +115,7 @@ IsAnswer status.Refused = Unit {0}
 IsAnswer _ = ⊥
 
 -- Each text is answered: one of the language by its report, a faulty one by its refusal, unless memory runs out.
-pub record IsAnsweredBy (text : List ℕ) (result : Status) : Type 0 where
+pub record IsAnsweredBy (m : Machdep) (text : List ℕ) (result : Status) : Type 0 where
   pub every : IsAnswer result ⊎ (result ≡ status.NoMemory)
-  pub spelled : (p : Program) → length text ≤ most_bytes → Spells text p → ((result ≡ status.AllProved) ⊎ (result ≡ status.SomeUnknown)) ⊎ (result ≡ status.NoMemory)
-  pub faulty : (r : Refusal) → HasFault text r → (result ≡ status.Refused) ⊎ (result ≡ status.NoMemory)
+  pub spelled : (p : Program) → length text ≤ most_bytes → Spells m text p → ((result ≡ status.AllProved) ⊎ (result ≡ status.SomeUnknown)) ⊎ (result ≡ status.NoMemory)
+  pub faulty : (r : Refusal) → HasFault m text r → (result ≡ status.Refused) ⊎ (result ≡ status.NoMemory)

@@ -2,6 +2,7 @@
 ghost use Rattle.std.specs.Prelude.{◌≡◌, ◌≤◌, ◌<◌, ℕ, Bool, List, IfOk, length, map};
 ghost use Rattle.core_prog.specs.View.{view_program};
 ghost use Rattle.c_lexer.specs.Tokens.{most_bytes};
+ghost use Rattle.c_kinds.specs.declared.models.Machdep.{Machdep as Model};
 ghost use Rattle.wp_cli.specs.Answers.{Answers};
 ghost use Rattle.wp_cli.specs.AnswerView.{ReportAnswers};
 ghost use Rattle.wp_cli.specs.Report as spec;
@@ -11,6 +12,7 @@ use crate::refusals::refusal_text;
 use crate::report::{FunctionReport, ReportGoal, report_text};
 use crate::verdicts::judge_program;
 use c_front::read_program;
+use c_kinds::Machdep;
 use core_prog::Core;
 use qed_terms::Verdict;
 use std::alloc::Global;
@@ -74,7 +76,7 @@ fn refusal_answer(alloc: Global, refusal: Refusal) -> Result<Answer, NoMemory>
 
 /// The answer to a text that is too long.
 pub fn too_long_answer(alloc: Global) -> Result<Answer, NoMemory>
-    ensures answer { IfOk result (λ answer. (text : List ℕ) → most_bytes < length text → (shows : Bool) → Answers shows text answer.status answer.text) }
+    ensures answer { IfOk result (λ answer. (text : List ℕ) → most_bytes < length text → (m : Model) (shows : Bool) → Answers m shows text answer.status answer.text) }
     ensures status { IfOk result (λ answer. answer.status ≡ Status.Refused) }
 {
     refusal_answer(
@@ -86,13 +88,18 @@ pub fn too_long_answer(alloc: Global) -> Result<Answer, NoMemory>
     )
 }
 
-/// The answer to a text: the report of the program that it spells, with its goals where they are to be
+/// The answer to a text with this data model: the report of the program that it spells, with its goals where they are to be
 /// shown, or the line that refuses it.
-pub fn text_answer(alloc: Global, text: &[u8], shows_goals: bool) -> Result<Answer, NoMemory>
+pub fn text_answer(
+    alloc: Global,
+    model: Machdep,
+    text: &[u8],
+    shows_goals: bool,
+) -> Result<Answer, NoMemory>
     requires { length text.now ≤ most_bytes }
-    ensures { IfOk result (λ answer. Answers shows_goals text.now answer.status answer.text) }
+    ensures { IfOk result (λ answer. Answers model shows_goals text.now answer.status answer.text) }
 {
-    match read_program(alloc, text) {
+    match read_program(alloc, model, text) {
         Ok(core) => report_answer(alloc, &core, shows_goals),
         Err(Stop::Refused(refusal)) => refusal_answer(alloc, refusal),
         Err(Stop::NoMemory) => Err(NoMemory),

@@ -7,7 +7,6 @@ mod refusals;
 mod report;
 mod top;
 mod verdicts;
-mod words;
 
 pub use report::{FunctionReport, Report, ReportGoal, report_text};
 pub use top::wp_main;

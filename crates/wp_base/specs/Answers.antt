@@ -46,7 +46,7 @@ abbrev pub text_of : Status → List ℕ
 text_of status.AllProved = []
 text_of status.SomeUnknown = []
 text_of status.Refused = []
-text_of status.Usage = codes "usage: wp [--goals] FILE"
+text_of status.Usage = codes "usage: wp [--machdep NAME] [--goals] FILE"
 text_of status.ReadFault = codes "wp: cannot read"
 text_of status.WriteFault = codes "wp: cannot write"
 text_of status.NoMemory = codes "wp: out of memory"

@@ -134,7 +134,7 @@ impl Status {
     {
         match self {
             Status::AllProved | Status::SomeUnknown | Status::Refused => "",
-            Status::Usage => "usage: wp [--goals] FILE",
+            Status::Usage => "usage: wp [--machdep NAME] [--goals] FILE",
             Status::ReadFault => "wp: cannot read",
             Status::WriteFault => "wp: cannot write",
             Status::NoMemory => "wp: out of memory",

@@ -16,7 +16,7 @@ TOP = os.path.dirname(os.path.dirname(os.path.abspath(__file__)))
 LIMIT = 1048576
 MEMORY = [4, 8, 12, 16, 24, 32, 48, 64, 96, 128, 192, 256]
 LEXER = ["wp_base", "wp_io", "c_syntax", "c_lexer"]
-PARSER = ["c_grammar", "parse_types", "parse_exprs", "parse_decls", "parse_terms", "parse_preds", "parse_clauses", "acsl_parser", "parse_leaf_stmts", "parse_stmts", "parse_file", "c_parser", "core_prog", "core_names", "c_core", "c_front"]
+PARSER = ["name_table", "c_grammar", "parse_types", "parse_exprs", "parse_decls", "parse_terms", "parse_preds", "parse_clauses", "acsl_parser", "parse_leaf_stmts", "parse_stmts", "parse_file", "c_parser", "core_prog", "core_names", "c_core", "c_front"]
 
 MAIN = r"""//! Reads a file, and tells by its status whether it is read whole.
 #![tactic(auto)]
@@ -121,6 +121,7 @@ TREES = {
     "a ladder of 190 else if": function(b"if (a) ; else " * 190 + b";"),
     "100,000 statements": function(b";" * 100000),
     "1,000 globals": b"int x = 1, y[2];\n" * 1000,
+    "24,000 typedefs, each used": b"".join(b"typedef int t%d;\n" % i for i in range(24000)) + b"".join(b"t%d x%d;\n" % (i, i) for i in range(24000)),
     "no declaration at the end": b"int x = 1;\n" * 30000 + b"int",
     "a sum of 90,000": function(b"return a" + b" + a" * 90000 + b";"),
     "a product of 90,000": function(b"return a" + b" * a" * 90000 + b";"),

@@ -11,11 +11,11 @@ use crate::behaviors::behaviors_at;
 use crate::clauses::pred_ended;
 use crate::endings::{Ending, endings_at, split_endings};
 use crate::part::part_at;
-use c_grammar::{DEEPEST, Fault, Read, keyword_at};
+use c_grammar::{DEEPEST, Fault, Read, TypeNames, keyword_at};
 use c_syntax::{Behavior, Contract, LoopAnnot, Pred, Token};
 use parse_clauses::{Part, Sorted, first_assigns, first_measure};
 use std::alloc::Global;
-use wp_base::{Line, List, NoMemory, Str};
+use wp_base::{Line, List, NoMemory};
 
 fn loop_of(alloc: Global, sorted: Sorted) -> LoopAnnot
     ensures { view_loop result ≡ loop_made (view_sorted sorted) }
@@ -31,7 +31,7 @@ fn loop_of(alloc: Global, sorted: Sorted) -> LoopAnnot
 #[tactic(auto, unfolding(crate::specs::Read::loop_at))]
 pub fn loop_at<'a>(
     alloc: Global,
-    types: &[Str],
+    types: &TypeNames,
     room: u32,
     end: usize,
     tokens: &'a [Token],
@@ -46,7 +46,7 @@ pub fn loop_at<'a>(
 #[tactic(auto, unfolding(crate::specs::Read::assert_at))]
 pub fn assert_at<'a>(
     alloc: Global,
-    types: &[Str],
+    types: &TypeNames,
     room: u32,
     tokens: &'a [Token],
 ) -> Read<'a, (Pred, Line)>
@@ -83,7 +83,7 @@ fn contract_of(
 #[tactic(auto, unfolding(crate::specs::Read::contract_at))]
 pub fn contract_at<'a>(
     alloc: Global,
-    types: &[Str],
+    types: &TypeNames,
     end: usize,
     tokens: &'a [Token],
 ) -> Read<'a, Contract>

@@ -8,7 +8,7 @@ ghost use Rattle.parse_clauses.specs.Views.{view_sorted};
 
 use crate::part::part_at;
 use crate::words::{place_of, starts_behavior};
-use c_grammar::{DEEPEST, Fault, Read, expect, keyword_at, new_name_at};
+use c_grammar::{DEEPEST, Fault, Read, TypeNames, expect, keyword_at, new_name_at};
 use c_syntax::{Behavior, Punct, Token};
 use parse_clauses::{Part, Sorted, first_assigns};
 use std::alloc::Global;
@@ -31,7 +31,7 @@ fn behavior_made(alloc: Global, place: usize, name: Str, line: Line, sorted: Sor
 #[tactic(auto, unfolding(crate::specs::Read::behavior_at))]
 fn behavior_at<'a>(
     alloc: Global,
-    types: &[Str],
+    types: &TypeNames,
     end: usize,
     tokens: &'a [Token],
 ) -> Read<'a, Behavior>
@@ -52,7 +52,7 @@ fn behavior_at<'a>(
 /// Behaviors, as long as one starts.
 pub fn behaviors_at<'a>(
     alloc: Global,
-    types: &[Str],
+    types: &TypeNames,
     end: usize,
     tokens: &'a [Token],
 ) -> Read<'a, List<Behavior>>

@@ -6,18 +6,18 @@ ghost use Rattle.c_grammar.specs.ListReaders.{with_items, more_separated, separa
 ghost use Rattle.parse_terms.specs.Read.{entry_at as entry_of};
 ghost use Rattle.acsl_parser.specs.Read as spec;
 
-use c_grammar::{Read, expect, punct_at, word_at};
+use c_grammar::{Read, TypeNames, expect, punct_at, word_at};
 use c_syntax::{AssignsClause, Pred, Punct, Term, Token, Word};
 use parse_preds::pred_at;
 use parse_terms::{entry_at, term_at};
 use std::alloc::Global;
-use wp_base::{Line, List, Str};
+use wp_base::{Line, List};
 
 /// A predicate and a semicolon.
 #[tactic(auto, unfolding(crate::specs::Read::pred_ended))]
 pub fn pred_ended<'a>(
     alloc: Global,
-    types: &[Str],
+    types: &TypeNames,
     room: u32,
     tokens: &'a [Token],
 ) -> Read<'a, Pred>
@@ -32,7 +32,7 @@ pub fn pred_ended<'a>(
 #[tactic(auto, unfolding(crate::specs::Read::term_ended))]
 pub fn term_ended<'a>(
     alloc: Global,
-    types: &[Str],
+    types: &TypeNames,
     room: u32,
     tokens: &'a [Token],
 ) -> Read<'a, Term>
@@ -46,7 +46,7 @@ pub fn term_ended<'a>(
 // The entries so far, and those that come after a comma.
 fn more_entries<'a>(
     alloc: Global,
-    types: &[Str],
+    types: &TypeNames,
     room: u32,
     first: List<Term>,
     tokens: &'a [Token],
@@ -69,7 +69,7 @@ fn more_entries<'a>(
 #[tactic(auto, using(c_grammar::proofs::Turns::one_more), unfolding(c_grammar::specs::ListReaders::separated_at))]
 fn some_entries<'a>(
     alloc: Global,
-    types: &[Str],
+    types: &TypeNames,
     room: u32,
     tokens: &'a [Token],
 ) -> Read<'a, List<Term>>
@@ -85,7 +85,7 @@ fn some_entries<'a>(
 #[tactic(auto, unfolding(crate::specs::Read::entries_at))]
 fn entries_at<'a>(
     alloc: Global,
-    types: &[Str],
+    types: &TypeNames,
     room: u32,
     tokens: &'a [Token],
 ) -> Read<'a, List<Term>>
@@ -99,7 +99,12 @@ fn entries_at<'a>(
 
 // The line of `\from`, whose entries make no difference.
 #[tactic(auto, unfolding(crate::specs::Read::from_at))]
-fn from_at<'a>(alloc: Global, types: &[Str], room: u32, tokens: &'a [Token]) -> Read<'a, List<Line>>
+fn from_at<'a>(
+    alloc: Global,
+    types: &TypeNames,
+    room: u32,
+    tokens: &'a [Token],
+) -> Read<'a, List<Line>>
     ensures { Gives (λ lines. lines) result (spec.from_at types.now room tokens.now) }
 {
     let mut lines = List::new(alloc);
@@ -115,7 +120,7 @@ fn from_at<'a>(alloc: Global, types: &[Str], room: u32, tokens: &'a [Token]) -> 
 #[tactic(auto, unfolding(crate::specs::Read::assigns_at))]
 pub fn assigns_at<'a>(
     alloc: Global,
-    types: &[Str],
+    types: &TypeNames,
     room: u32,
     place: usize,
     line: Line,

@@ -6,11 +6,11 @@ ghost use Rattle.parse_clauses.specs.Views.{view_item};
 
 use crate::clauses::{assigns_at, pred_ended, term_ended};
 use crate::words::{ClauseWord, LoopWord, clause_word_at, loop_word_at, place_of, starts_item};
-use c_grammar::{Fault, Read};
+use c_grammar::{Fault, Read, TypeNames};
 use c_syntax::{Clause, Measure, Pred, Term, Token};
 use parse_clauses::Item;
 use std::alloc::Global;
-use wp_base::{Line, List, Str};
+use wp_base::{Line, List};
 
 fn clause_of(pred: Pred, place: usize, line: Line) -> Clause
     ensures { result ≡ record { pred = pred; line = line; place = place } }
@@ -28,7 +28,7 @@ fn measure_of(term: Term, place: usize, line: Line) -> Measure
 #[tactic(auto, unfolding(crate::specs::Read::loop_item_at))]
 fn loop_item_at<'a>(
     alloc: Global,
-    types: &[Str],
+    types: &TypeNames,
     room: u32,
     place: usize,
     line: Line,
@@ -58,7 +58,7 @@ fn loop_item_at<'a>(
 // A clause behind its word.
 fn item_behind<'a>(
     alloc: Global,
-    types: &[Str],
+    types: &TypeNames,
     room: u32,
     place: usize,
     line: Line,
@@ -96,7 +96,7 @@ fn item_behind<'a>(
 #[tactic(auto, unfolding(crate::specs::Read::item_at))]
 fn item_at<'a>(
     alloc: Global,
-    types: &[Str],
+    types: &TypeNames,
     room: u32,
     end: usize,
     tokens: &'a [Token],
@@ -112,7 +112,7 @@ fn item_at<'a>(
 /// Clauses, as long as one starts.
 pub fn items_at<'a>(
     alloc: Global,
-    types: &[Str],
+    types: &TypeNames,
     room: u32,
     end: usize,
     tokens: &'a [Token],

@@ -8,16 +8,16 @@ ghost use Rattle.acsl_parser.specs.Read as spec;
 
 use crate::clauses::{pred_ended, term_ended};
 use crate::words::{LogicWord, logic_word_at, starts_logic};
-use c_grammar::{DEEPEST, Fault, Read, expect, new_name_at, punct_at};
+use c_grammar::{DEEPEST, Fault, Read, TypeNames, expect, new_name_at, punct_at};
 use c_syntax::{LogicBody, LogicDecl, Punct, Token, VarDecl};
 use parse_preds::typed_at;
 use std::alloc::Global;
-use wp_base::{List, Str};
+use wp_base::List;
 
 // The parameters so far, and those that come after a comma.
 fn more_params<'a>(
     alloc: Global,
-    types: &[Str],
+    types: &TypeNames,
     first: List<VarDecl>,
     tokens: &'a [Token],
 ) -> Read<'a, List<VarDecl>>
@@ -37,7 +37,7 @@ fn more_params<'a>(
 }
 
 #[tactic(auto, using(c_grammar::proofs::Turns::one_more), unfolding(c_grammar::specs::ListReaders::separated_at))]
-fn some_params<'a>(alloc: Global, types: &[Str], tokens: &'a [Token]) -> Read<'a, List<VarDecl>>
+fn some_params<'a>(alloc: Global, types: &TypeNames, tokens: &'a [Token]) -> Read<'a, List<VarDecl>>
     ensures { Gives (map view_var) result (separated_at (typed_of types.now) tokens.now) }
 {
     let (item, rest) = typed_at(alloc, types, tokens)?;
@@ -48,7 +48,7 @@ fn some_params<'a>(alloc: Global, types: &[Str], tokens: &'a [Token]) -> Read<'a
 
 // Parameters in parentheses, or none.
 #[tactic(auto, unfolding(crate::specs::Read::params_at))]
-fn params_at<'a>(alloc: Global, types: &[Str], tokens: &'a [Token]) -> Read<'a, List<VarDecl>>
+fn params_at<'a>(alloc: Global, types: &TypeNames, tokens: &'a [Token]) -> Read<'a, List<VarDecl>>
     ensures { Gives (map view_var) result (spec.params_at types.now tokens.now) }
 {
     let Some((_, rest)) = punct_at(Punct::OpenParen, tokens) else {
@@ -61,7 +61,7 @@ fn params_at<'a>(alloc: Global, types: &[Str], tokens: &'a [Token]) -> Read<'a, 
 
 // What stands behind `predicate`.
 #[tactic(auto, unfolding(crate::specs::Read::predicate_at))]
-fn predicate_at<'a>(alloc: Global, types: &[Str], tokens: &'a [Token]) -> Read<'a, LogicDecl>
+fn predicate_at<'a>(alloc: Global, types: &TypeNames, tokens: &'a [Token]) -> Read<'a, LogicDecl>
     ensures { Gives view_logic result (spec.predicate_at types.now tokens.now) }
 {
     let ((name, line), rest) = new_name_at(alloc, types, tokens)?;
@@ -92,7 +92,7 @@ fn function_of(var: VarDecl, params: List<VarDecl>, body: LogicBody) -> LogicDec
 
 // What stands behind `logic`.
 #[tactic(auto, unfolding(crate::specs::Read::function_at))]
-fn function_at<'a>(alloc: Global, types: &[Str], tokens: &'a [Token]) -> Read<'a, LogicDecl>
+fn function_at<'a>(alloc: Global, types: &TypeNames, tokens: &'a [Token]) -> Read<'a, LogicDecl>
     ensures { Gives view_logic result (spec.function_at types.now tokens.now) }
 {
     let (var, rest) = typed_at(alloc, types, tokens)?;
@@ -104,7 +104,7 @@ fn function_at<'a>(alloc: Global, types: &[Str], tokens: &'a [Token]) -> Read<'a
 
 /// A definition of a predicate or a logic function.
 #[tactic(auto, unfolding(crate::specs::Read::logic_at))]
-pub fn logic_at<'a>(alloc: Global, types: &[Str], tokens: &'a [Token]) -> Read<'a, LogicDecl>
+pub fn logic_at<'a>(alloc: Global, types: &TypeNames, tokens: &'a [Token]) -> Read<'a, LogicDecl>
     ensures { Gives view_logic result (spec.logic_at types.now tokens.now) }
 {
     let Some(((word, _), rest)) = logic_word_at(tokens) else {
@@ -118,7 +118,11 @@ pub fn logic_at<'a>(alloc: Global, types: &[Str], tokens: &'a [Token]) -> Read<'
 
 /// Definitions, at least one.
 #[tactic(auto, using(crate::proofs::Reading::logics_none))]
-pub fn logics_at<'a>(alloc: Global, types: &[Str], tokens: &'a [Token]) -> Read<'a, List<LogicDecl>>
+pub fn logics_at<'a>(
+    alloc: Global,
+    types: &TypeNames,
+    tokens: &'a [Token],
+) -> Read<'a, List<LogicDecl>>
     ensures { Gives (map view_logic) result (spec.logics_at types.now tokens.now) }
 {
     if !starts_logic(tokens) {

@@ -4,18 +4,17 @@ ghost use Rattle.parse_clauses.specs.Views.{view_sorted};
 ghost use Rattle.acsl_parser.specs.Read as spec;
 
 use crate::items::items_at;
-use c_grammar::{Fault, Read};
+use c_grammar::{Fault, Read, TypeNames};
 use c_syntax::Token;
 use parse_clauses::{Part, Sorted, are_in, are_single, sort};
 use std::alloc::Global;
-use wp_base::Str;
 
 /// Clauses that may stand together in this part.
 #[tactic(auto, unfolding(crate::specs::Read::part_at))]
 pub fn part_at<'a>(
     alloc: Global,
     part: Part,
-    types: &[Str],
+    types: &TypeNames,
     room: u32,
     end: usize,
     tokens: &'a [Token],

@@ -13,10 +13,10 @@ ghost use Rattle.acsl_parser.specs.Spelled.{SpellsAssertAlone};
 use crate::annots::{assert_at, contract_at, loop_at};
 use crate::logics::logic_at;
 use crate::words::place_of;
-use c_grammar::{DEEPEST, Fault, Read};
+use c_grammar::{DEEPEST, Fault, Read, TypeNames};
 use c_syntax::{Contract, LogicDecl, LoopAnnot, Pred, Token, TokenKind, Tokens};
 use std::alloc::Global;
-use wp_base::{Line, List, Refusal, Rule, Stop, Str};
+use wp_base::{Line, Refusal, Rule, Stop};
 
 // Whether what ends an annotation comes first.
 fn is_closed(tokens: &[Token]) -> bool
@@ -76,7 +76,7 @@ fn placed<T: Drop>(
 pub fn parse_contract(
     alloc: Global,
     tokens: &Tokens,
-    types: &List<Str>,
+    types: &TypeNames,
     at: usize,
 ) -> Result<(Contract, usize), Stop>
     requires { at < length tokens.now }
@@ -85,7 +85,7 @@ pub fn parse_contract(
     ensures refusal { (x : Refusal) → result ≡ Err (Stop.Refused x) → RefusesAt tokens.now at x }
 {
     let all = tokens.as_slice();
-    let found = contract_at(alloc, types.as_slice(), all.len(), &all[at..]);
+    let found = contract_at(alloc, types, all.len(), &all[at..]);
     placed(true, all.len(), all[at].line, found)
 }
 
@@ -94,7 +94,7 @@ pub fn parse_contract(
 pub fn parse_loop(
     alloc: Global,
     tokens: &Tokens,
-    types: &List<Str>,
+    types: &TypeNames,
     depth: u32,
     at: usize,
 ) -> Result<(LoopAnnot, usize), Stop>
@@ -105,13 +105,7 @@ pub fn parse_loop(
     ensures refusal { (x : Refusal) → result ≡ Err (Stop.Refused x) → RefusesAt tokens.now at x }
 {
     let all = tokens.as_slice();
-    let found = loop_at(
-        alloc,
-        types.as_slice(),
-        DEEPEST - depth,
-        all.len(),
-        &all[at..],
-    );
+    let found = loop_at(alloc, types, DEEPEST - depth, all.len(), &all[at..]);
     placed(true, all.len(), all[at].line, found)
 }
 
@@ -130,7 +124,7 @@ fn without_line(found: Read<'_, (Pred, Line)>) -> Read<'_, Pred>
 pub fn parse_assert(
     alloc: Global,
     tokens: &Tokens,
-    types: &List<Str>,
+    types: &TypeNames,
     depth: u32,
     at: usize,
 ) -> Result<(Pred, usize), Stop>
@@ -141,7 +135,7 @@ pub fn parse_assert(
     ensures refusal { (x : Refusal) → result ≡ Err (Stop.Refused x) → RefusesAt tokens.now at x }
 {
     let all = tokens.as_slice();
-    let found = assert_at(alloc, types.as_slice(), DEEPEST - depth, &all[at..]);
+    let found = assert_at(alloc, types, DEEPEST - depth, &all[at..]);
     placed(true, all.len(), all[at].line, without_line(found))
 }
 
@@ -149,7 +143,7 @@ pub fn parse_assert(
 pub fn parse_global(
     alloc: Global,
     tokens: &Tokens,
-    types: &List<Str>,
+    types: &TypeNames,
     at: usize,
 ) -> Result<(LogicDecl, usize), Stop>
     requires { at < length tokens.now }
@@ -158,6 +152,6 @@ pub fn parse_global(
     ensures refusal { (x : Refusal) → result ≡ Err (Stop.Refused x) → RefusesAt tokens.now at x }
 {
     let all = tokens.as_slice();
-    let found = logic_at(alloc, types.as_slice(), &all[at..]);
+    let found = logic_at(alloc, types, &all[at..]);
     placed(false, all.len(), all[at].line, found)
 }

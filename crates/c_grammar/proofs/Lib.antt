@@ -4,3 +4,4 @@ pub mod Chains
 pub mod Levels
 pub mod Separating
 pub mod Turns
+pub mod Knowing

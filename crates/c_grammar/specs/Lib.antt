@@ -1,4 +1,5 @@
 pub mod Tokens
+pub mod Known
 pub mod Lists
 pub mod Operators
 pub mod Types

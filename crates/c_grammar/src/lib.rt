@@ -7,6 +7,7 @@ mod fault;
 mod limits;
 mod operators;
 mod tokens;
+mod type_names;
 
 pub use choices::if_of;
 pub use fault::{Fault, Read};
@@ -16,3 +17,4 @@ pub use tokens::{
     annot_close_at, annot_open_at, expect, first_line, is_type, keyword_at, name_at, new_name_at,
     punct_at, word_at,
 };
+pub use type_names::TypeNames;

@@ -5,6 +5,7 @@ ghost use Rattle.c_grammar.specs.Tokens.{first_line as line_of_first, is_type as
 ghost use Rattle.c_grammar.specs.Views.{Finds, Gives};
 
 use crate::fault::{Fault, Read};
+use crate::type_names::TypeNames;
 use c_syntax::{Punct, Token, TokenKind, Word};
 use std::alloc::Global;
 use wp_base::{Line, Str};
@@ -85,10 +86,10 @@ pub fn annot_close_at(tokens: &[Token]) -> Option<(Line, &[Token])>
 }
 
 /// Whether a typedef declared the name.
-pub fn is_type(types: &[Str], name: &Str) -> bool
+pub fn is_type(types: &TypeNames, name: &Str) -> bool
     ensures { result ≡ is_typedef_name types.now name.now }
 {
-    types.iter().any(|found| found.bytes() == name.bytes())
+    types.has(name)
 }
 
 /// A name, with its line.
@@ -105,7 +106,11 @@ pub fn name_at(alloc: Global, tokens: &[Token]) -> Read<'_, (Str, Line)>
 }
 
 /// A name that no typedef declared, with its line.
-pub fn new_name_at<'a>(alloc: Global, types: &[Str], tokens: &'a [Token]) -> Read<'a, (Str, Line)>
+pub fn new_name_at<'a>(
+    alloc: Global,
+    types: &TypeNames,
+    tokens: &'a [Token],
+) -> Read<'a, (Str, Line)>
     ensures { Gives (λ x. x) result (spec.new_name_at types.now tokens.now) }
 {
     let ((name, line), rest) = name_at(alloc, tokens)?;

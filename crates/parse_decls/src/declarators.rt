@@ -8,7 +8,7 @@ ghost use Rattle.c_grammar.specs.ListReaders.{with_items, more_separated, separa
 ghost use Rattle.parse_exprs.specs.Read.{cond_at, expr_at};
 ghost use Rattle.parse_decls.specs.Read as spec;
 
-use c_grammar::{Fault, Read, expect, new_name_at, punct_at};
+use c_grammar::{Fault, Read, TypeNames, expect, new_name_at, punct_at};
 use c_syntax::{CType, Expr, Punct, Token, VarDecl};
 use parse_exprs::{cond_at, expr_at};
 use parse_types::{stars_at, type_at};
@@ -50,7 +50,12 @@ pub fn array(alloc: Global, of: CType, length: Expr) -> Result<CType, NoMemory>
 
 /// What stands behind an opening bracket, up to the one that closes it.
 #[tactic(auto, unfolding(crate::specs::Read::length_of))]
-pub fn length_at<'a>(alloc: Global, types: &[Str], room: u32, tokens: &'a [Token]) -> Read<'a, Expr>
+pub fn length_at<'a>(
+    alloc: Global,
+    types: &TypeNames,
+    room: u32,
+    tokens: &'a [Token],
+) -> Read<'a, Expr>
     ensures { Gives view_expr result (spec.length_of (cond_at types.now) room tokens.now) }
 {
     if room == 0 {
@@ -65,7 +70,7 @@ pub fn length_at<'a>(alloc: Global, types: &[Str], room: u32, tokens: &'a [Token
 #[tactic(auto, unfolding(crate::specs::Read::declarator_at, crate::specs::Read::declarator_of))]
 pub fn declarator_at<'a>(
     alloc: Global,
-    types: &[Str],
+    types: &TypeNames,
     room: u32,
     base: CType,
     tokens: &'a [Token],
@@ -85,7 +90,7 @@ pub fn declarator_at<'a>(
 /// A declarator, from a type that more of them share.
 pub fn another_declarator<'a>(
     alloc: Global,
-    types: &[Str],
+    types: &TypeNames,
     room: u32,
     base: &CType,
     tokens: &'a [Token],
@@ -100,7 +105,7 @@ pub fn another_declarator<'a>(
 #[tactic(auto, unfolding(crate::specs::Read::declarator_at, crate::specs::Read::initialised_of))]
 fn initialised_at<'a>(
     alloc: Global,
-    types: &[Str],
+    types: &TypeNames,
     room: u32,
     base: &CType,
     tokens: &'a [Token],
@@ -118,7 +123,7 @@ fn initialised_at<'a>(
 // The variables so far, and those that come after a comma.
 fn more_variables<'a>(
     alloc: Global,
-    types: &[Str],
+    types: &TypeNames,
     room: u32,
     base: &CType,
     first: List<VarDecl>,
@@ -143,7 +148,7 @@ fn more_variables<'a>(
 #[tactic(auto, using(c_grammar::proofs::Turns::one_more), unfolding(c_grammar::specs::ListReaders::separated_at))]
 fn some_variables<'a>(
     alloc: Global,
-    types: &[Str],
+    types: &TypeNames,
     room: u32,
     base: &CType,
     tokens: &'a [Token],
@@ -160,7 +165,7 @@ fn some_variables<'a>(
 #[tactic(auto, unfolding(crate::specs::Read::variables_after, crate::specs::Read::variables_after_of))]
 pub fn variables_after<'a>(
     alloc: Global,
-    types: &[Str],
+    types: &TypeNames,
     room: u32,
     base: &CType,
     tokens: &'a [Token],
@@ -176,7 +181,7 @@ pub fn variables_after<'a>(
 #[tactic(auto, unfolding(crate::specs::Read::variables_after, crate::specs::Read::variables_at, crate::specs::Read::variables_of))]
 pub fn variables_at<'a>(
     alloc: Global,
-    types: &[Str],
+    types: &TypeNames,
     room: u32,
     tokens: &'a [Token],
 ) -> Read<'a, List<VarDecl>>

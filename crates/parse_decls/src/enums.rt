@@ -8,17 +8,17 @@ ghost use Rattle.parse_decls.specs.Read as spec;
 
 use crate::declarators::{declared, with_init};
 use crate::fields::at_brace;
-use c_grammar::{Fault, Read, expect, new_name_at, punct_at};
+use c_grammar::{Fault, Read, TypeNames, expect, new_name_at, punct_at};
 use c_syntax::{CType, Punct, Token, VarDecl};
 use parse_exprs::cond_at;
 use std::alloc::Global;
-use wp_base::{Kind, List, Str};
+use wp_base::{Kind, List};
 
 // A name, with a value if one is given.
 #[tactic(auto, using(crate::proofs::Reading::views), unfolding(crate::specs::Read::enumerator_of))]
 fn enumerator_at<'a>(
     alloc: Global,
-    types: &[Str],
+    types: &TypeNames,
     room: u32,
     tokens: &'a [Token],
 ) -> Read<'a, VarDecl>
@@ -36,7 +36,7 @@ fn enumerator_at<'a>(
 // The enumerators so far, and those that come after a comma; the last may have one behind it.
 fn more_enumerators<'a>(
     alloc: Global,
-    types: &[Str],
+    types: &TypeNames,
     room: u32,
     first: List<VarDecl>,
     tokens: &'a [Token],
@@ -63,7 +63,7 @@ fn more_enumerators<'a>(
 #[tactic(auto, using(c_grammar::proofs::Turns::one_more))]
 fn some_enumerators<'a>(
     alloc: Global,
-    types: &[Str],
+    types: &TypeNames,
     room: u32,
     tokens: &'a [Token],
 ) -> Read<'a, List<VarDecl>>
@@ -79,7 +79,7 @@ fn some_enumerators<'a>(
 #[tactic(auto, unfolding(crate::specs::Read::enumerators_at, crate::specs::Read::enumerators_of, crate::specs::Read::enumerated))]
 pub fn enumerators_at<'a>(
     alloc: Global,
-    types: &[Str],
+    types: &TypeNames,
     room: u32,
     tokens: &'a [Token],
 ) -> Read<'a, List<VarDecl>>

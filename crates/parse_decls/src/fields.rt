@@ -7,16 +7,16 @@ ghost use Rattle.parse_exprs.specs.Read.{cond_at};
 ghost use Rattle.parse_decls.specs.Read as spec;
 
 use crate::declarators::another_declarator;
-use c_grammar::{Fault, Read, expect, punct_at};
+use c_grammar::{Fault, Read, TypeNames, expect, punct_at};
 use c_syntax::{CType, Punct, Token, TokenKind, VarDecl};
 use parse_types::type_at;
 use std::alloc::Global;
-use wp_base::{List, Str};
+use wp_base::List;
 
 // The names so far, and those that come after a comma.
 fn more_declarators<'a>(
     alloc: Global,
-    types: &[Str],
+    types: &TypeNames,
     room: u32,
     base: &CType,
     first: List<VarDecl>,
@@ -41,7 +41,7 @@ fn more_declarators<'a>(
 #[tactic(auto, using(c_grammar::proofs::Turns::items_first, crate::proofs::Reading::items_are))]
 fn some_declarators<'a>(
     alloc: Global,
-    types: &[Str],
+    types: &TypeNames,
     room: u32,
     base: &CType,
     first: List<VarDecl>,
@@ -59,7 +59,7 @@ fn some_declarators<'a>(
 #[tactic(auto, using(crate::proofs::Reading::group_is))]
 fn group_at<'a>(
     alloc: Global,
-    types: &[Str],
+    types: &TypeNames,
     room: u32,
     first: List<VarDecl>,
     tokens: &'a [Token],
@@ -86,7 +86,7 @@ pub fn at_brace(tokens: &[Token]) -> bool
 /// The fields of a struct, up to the brace that closes them.
 pub fn fields_at<'a>(
     alloc: Global,
-    types: &[Str],
+    types: &TypeNames,
     room: u32,
     tokens: &'a [Token],
 ) -> Read<'a, List<VarDecl>>

@@ -11,7 +11,7 @@ ghost use Rattle.parse_decls.specs.Read as spec;
 ghost use Rattle.parse_decls.specs.Views.{view_param, FindsRest};
 
 use crate::declarators::{array, declared, length_at};
-use c_grammar::{Fault, Read, first_line, new_name_at, punct_at, word_at};
+use c_grammar::{Fault, Read, TypeNames, first_line, new_name_at, punct_at, word_at};
 use c_syntax::{CType, Punct, Token, TokenKind, VarDecl, Word};
 use parse_types::{stars_at, type_at};
 use std::alloc::Global;
@@ -29,7 +29,7 @@ fn pointer(alloc: Global, to: CType) -> Result<CType, NoMemory>
 #[tactic(auto, unfolding(crate::specs::Read::bracketed))]
 fn bracketed<'a>(
     alloc: Global,
-    types: &[Str],
+    types: &TypeNames,
     room: u32,
     name: (Str, Line),
     ty: CType,
@@ -51,7 +51,12 @@ fn bracketed<'a>(
 }
 
 #[tactic(auto, unfolding(crate::specs::Read::param_of))]
-fn param_at<'a>(alloc: Global, types: &[Str], room: u32, tokens: &'a [Token]) -> Read<'a, VarDecl>
+fn param_at<'a>(
+    alloc: Global,
+    types: &TypeNames,
+    room: u32,
+    tokens: &'a [Token],
+) -> Read<'a, VarDecl>
     ensures { Gives view_var result (spec.param_of types.now (cond_at types.now) room tokens.now) }
 {
     let (base, rest) = type_at(alloc, types, tokens)?;
@@ -68,7 +73,7 @@ fn param_at<'a>(alloc: Global, types: &[Str], room: u32, tokens: &'a [Token]) ->
 #[tactic(auto, unfolding(crate::specs::Read::param_on_of))]
 fn param_on<'a>(
     alloc: Global,
-    types: &[Str],
+    types: &TypeNames,
     room: u32,
     tokens: &'a [Token],
 ) -> Read<'a, (VarDecl, Line)>
@@ -82,7 +87,7 @@ fn param_on<'a>(
 // The parameters so far, and those that come after a comma.
 fn more_params<'a>(
     alloc: Global,
-    types: &[Str],
+    types: &TypeNames,
     room: u32,
     first: List<(VarDecl, Line)>,
     tokens: &'a [Token],
@@ -106,7 +111,7 @@ fn more_params<'a>(
 #[tactic(auto, using(c_grammar::proofs::Turns::one_more), unfolding(c_grammar::specs::ListReaders::separated_at))]
 fn some_params<'a>(
     alloc: Global,
-    types: &[Str],
+    types: &TypeNames,
     room: u32,
     tokens: &'a [Token],
 ) -> Read<'a, List<(VarDecl, Line)>>
@@ -143,7 +148,7 @@ fn no_params(tokens: &[Token]) -> Option<&[Token]>
 #[tactic(auto, unfolding(crate::specs::Read::params_at, crate::specs::Read::params_of))]
 pub fn params_at<'a>(
     alloc: Global,
-    types: &[Str],
+    types: &TypeNames,
     room: u32,
     tokens: &'a [Token],
 ) -> Read<'a, List<(VarDecl, Line)>>

@@ -9,7 +9,7 @@ use crate::operators::{Prefix, Suffix, assign_at, operator, prefix_at, suffix_at
 use crate::trees::{
     Place, assigned, binary, call, cast_to, conditional, field, index, step_behind, with_prefix,
 };
-use c_grammar::{Fault, LOOSEST, Read, expect, is_type, name_at, punct_at, word_at};
+use c_grammar::{Fault, LOOSEST, Read, TypeNames, expect, is_type, name_at, punct_at, word_at};
 use c_syntax::{Expr, ExprNode, Punct, Token, TokenKind, Word};
 use parse_types::{starts_type, type_name_at};
 use std::alloc::Global;
@@ -20,7 +20,7 @@ use wp_base::{Line, List, Str};
 #[tactic(auto, unfolding(crate::specs::Read::enclosed))]
 fn enclosed<'a>(
     alloc: Global,
-    types: &[Str],
+    types: &TypeNames,
     room: u32,
     close: Punct,
     tokens: &'a [Token],
@@ -38,7 +38,12 @@ fn enclosed<'a>(
 // An argument, and whether a comma stands behind it, or else the closing parenthesis.
 #[cycle(exprs)]
 #[tactic(auto, unfolding(crate::specs::Read::arg))]
-fn arg<'a>(alloc: Global, types: &[Str], room: u32, tokens: &'a [Token]) -> Read<'a, (Expr, bool)>
+fn arg<'a>(
+    alloc: Global,
+    types: &TypeNames,
+    room: u32,
+    tokens: &'a [Token],
+) -> Read<'a, (Expr, bool)>
     ensures { Gives view_arg result (spec.arg (spec.expr_at types.now room) tokens.now) }
 {
     let (found, rest) = expr(alloc, types, room, tokens)?;
@@ -54,7 +59,7 @@ fn arg<'a>(alloc: Global, types: &[Str], room: u32, tokens: &'a [Token]) -> Read
 #[tactic(auto, using(crate::proofs::Reading::args_out))]
 fn some_args<'a>(
     alloc: Global,
-    types: &[Str],
+    types: &TypeNames,
     room: u32,
     tokens: &'a [Token],
 ) -> Read<'a, List<Expr>>
@@ -76,7 +81,12 @@ fn some_args<'a>(
 // The arguments of a call, and its closing parenthesis.
 #[cycle(exprs)]
 #[tactic(auto, using(crate::proofs::Reading::args_is), unfolding(crate::specs::Read::args_over))]
-fn args<'a>(alloc: Global, types: &[Str], room: u32, tokens: &'a [Token]) -> Read<'a, List<Expr>>
+fn args<'a>(
+    alloc: Global,
+    types: &TypeNames,
+    room: u32,
+    tokens: &'a [Token],
+) -> Read<'a, List<Expr>>
     ensures { Gives (map view_expr) result ((spec.inside types.now room).args tokens.now) }
 {
     if room == 0 {
@@ -93,7 +103,7 @@ fn args<'a>(alloc: Global, types: &[Str], room: u32, tokens: &'a [Token]) -> Rea
 #[tactic(auto, using(c_syntax::proofs::Equations::expr_laws), unfolding(crate::specs::Read::named))]
 fn named<'a>(
     alloc: Global,
-    types: &[Str],
+    types: &TypeNames,
     room: u32,
     name: &Str,
     line: Line,
@@ -116,7 +126,7 @@ fn named<'a>(
 // A primary expression (C11 6.5.1).
 #[cycle(exprs)]
 #[tactic(auto, using(c_syntax::proofs::Equations::expr_laws), unfolding(crate::specs::Read::primary))]
-fn primary<'a>(alloc: Global, types: &[Str], room: u32, tokens: &'a [Token]) -> Read<'a, Expr>
+fn primary<'a>(alloc: Global, types: &TypeNames, room: u32, tokens: &'a [Token]) -> Read<'a, Expr>
     ensures { Gives view_expr result (spec.primary types.now (spec.inside types.now room) tokens.now) }
 {
     let Some((first, rest)) = tokens.split_first() else {
@@ -145,7 +155,7 @@ fn primary<'a>(alloc: Global, types: &[Str], room: u32, tokens: &'a [Token]) -> 
 #[tactic(auto, unfolding(crate::specs::Read::suffix))]
 fn suffix<'a>(
     alloc: Global,
-    types: &[Str],
+    types: &TypeNames,
     room: u32,
     how: Suffix,
     line: Line,
@@ -172,7 +182,7 @@ fn suffix<'a>(
 #[tactic(auto, using(crate::proofs::Reading::suffixes_end, crate::proofs::Reading::suffixes_stop))]
 fn suffixes<'a>(
     alloc: Global,
-    types: &[Str],
+    types: &TypeNames,
     room: u32,
     first: Expr,
     tokens: &'a [Token],
@@ -195,7 +205,7 @@ fn suffixes<'a>(
 // A postfix expression (C11 6.5.2).
 #[cycle(exprs)]
 #[tactic(auto, unfolding(crate::specs::Read::postfix))]
-fn postfix<'a>(alloc: Global, types: &[Str], room: u32, tokens: &'a [Token]) -> Read<'a, Expr>
+fn postfix<'a>(alloc: Global, types: &TypeNames, room: u32, tokens: &'a [Token]) -> Read<'a, Expr>
     ensures { Gives view_expr result (spec.postfix types.now (spec.inside types.now room) tokens.now) }
 {
     let (first, rest) = primary(alloc, types, room, tokens)?;
@@ -207,7 +217,7 @@ fn postfix<'a>(alloc: Global, types: &[Str], room: u32, tokens: &'a [Token]) -> 
 #[tactic(auto, unfolding(crate::specs::Read::prefixed))]
 fn prefixed<'a>(
     alloc: Global,
-    types: &[Str],
+    types: &TypeNames,
     room: u32,
     prefix: Prefix,
     line: Line,
@@ -226,7 +236,7 @@ fn prefixed<'a>(
 #[tactic(auto, using(crate::proofs::Reading::type_name_is, c_syntax::proofs::Equations::expr_laws), unfolding(crate::specs::Read::sizeof))]
 fn sizeof<'a>(
     alloc: Global,
-    types: &[Str],
+    types: &TypeNames,
     room: u32,
     line: Line,
     tokens: &'a [Token],
@@ -248,7 +258,7 @@ fn sizeof<'a>(
 #[tactic(auto, using(crate::proofs::Reading::type_name_is), unfolding(crate::specs::Read::cast))]
 fn cast<'a>(
     alloc: Global,
-    types: &[Str],
+    types: &TypeNames,
     room: u32,
     line: Line,
     tokens: &'a [Token],
@@ -266,7 +276,7 @@ fn cast<'a>(
 
 // The parenthesis of a cast: a type comes behind it.
 #[tactic(auto, unfolding(crate::specs::Read::cast_at))]
-fn cast_at<'a>(types: &[Str], tokens: &'a [Token]) -> Option<(Line, &'a [Token])>
+fn cast_at<'a>(types: &TypeNames, tokens: &'a [Token]) -> Option<(Line, &'a [Token])>
     ensures { Finds (λ x. x) result (spec.cast_at types.now tokens.now) }
 {
     let (line, rest) = punct_at(Punct::OpenParen, tokens)?;
@@ -280,7 +290,7 @@ fn cast_at<'a>(types: &[Str], tokens: &'a [Token]) -> Option<(Line, &'a [Token])
 // A unary expression (C11 6.5.3).
 #[cycle(exprs)]
 #[tactic(auto, using(crate::proofs::Reading::unary_is), unfolding(crate::specs::Read::unary_over))]
-fn unary<'a>(alloc: Global, types: &[Str], room: u32, tokens: &'a [Token]) -> Read<'a, Expr>
+fn unary<'a>(alloc: Global, types: &TypeNames, room: u32, tokens: &'a [Token]) -> Read<'a, Expr>
     ensures { Gives view_expr result (spec.unary_at types.now room tokens.now) }
 {
     if let Some(((prefix, line), rest)) = prefix_at(tokens) {
@@ -300,7 +310,7 @@ fn unary<'a>(alloc: Global, types: &[Str], room: u32, tokens: &'a [Token]) -> Re
 #[tactic(auto, using(crate::proofs::Reading::binary_is))]
 fn operands<'a>(
     alloc: Global,
-    types: &[Str],
+    types: &TypeNames,
     room: u32,
     level: u32,
     tokens: &'a [Token],
@@ -316,7 +326,7 @@ fn operands<'a>(
 #[tactic(auto, using(crate::proofs::Reading::binary_from_zero, crate::proofs::Reading::binary_from_more))]
 fn operands_from<'a>(
     alloc: Global,
-    types: &[Str],
+    types: &TypeNames,
     room: u32,
     level: u32,
     first: Expr,
@@ -336,7 +346,7 @@ fn operands_from<'a>(
 #[tactic(auto, using(c_grammar::proofs::Chains::chain_ends, c_grammar::proofs::Chains::chain_stops))]
 fn chain<'a>(
     alloc: Global,
-    types: &[Str],
+    types: &TypeNames,
     room: u32,
     level: u32,
     first: Expr,
@@ -361,7 +371,12 @@ fn chain<'a>(
 // Both arms, behind the question mark.
 #[cycle(exprs)]
 #[tactic(auto, unfolding(crate::specs::Read::arms))]
-fn arms<'a>(alloc: Global, types: &[Str], room: u32, tokens: &'a [Token]) -> Read<'a, (Expr, Expr)>
+fn arms<'a>(
+    alloc: Global,
+    types: &TypeNames,
+    room: u32,
+    tokens: &'a [Token],
+) -> Read<'a, (Expr, Expr)>
     ensures { Gives view_arms result (spec.arms (spec.inside types.now room) tokens.now) }
 {
     if room == 0 {
@@ -377,7 +392,7 @@ fn arms<'a>(alloc: Global, types: &[Str], room: u32, tokens: &'a [Token]) -> Rea
 #[tactic(auto, unfolding(crate::specs::Read::cond_from))]
 fn cond_from<'a>(
     alloc: Global,
-    types: &[Str],
+    types: &TypeNames,
     room: u32,
     first: Expr,
     tokens: &'a [Token],
@@ -397,7 +412,7 @@ fn cond_from<'a>(
 #[tactic(auto, using(crate::proofs::Reading::cond_is))]
 pub(crate) fn cond<'a>(
     alloc: Global,
-    types: &[Str],
+    types: &TypeNames,
     room: u32,
     tokens: &'a [Token],
 ) -> Read<'a, Expr>
@@ -412,7 +427,7 @@ pub(crate) fn cond<'a>(
 #[tactic(auto, using(crate::proofs::Reading::expr_is, crate::proofs::Reading::assigns_out))]
 pub(crate) fn expr<'a>(
     alloc: Global,
-    types: &[Str],
+    types: &TypeNames,
     room: u32,
     tokens: &'a [Token],
 ) -> Read<'a, Expr>

@@ -2,7 +2,6 @@
 use Rattle.std.proofs.Common.{◌≡◌, ℕ, zero, suc, ◌+◌, true, false, List, [], ◌∷◌, ◌++◌, length, Some, None, refl, sym, ap, ◌∙◌, arith, append_assoc, append-nil}
 use Rattle.c_syntax.specs.declared.token.Token.{Token}
 use Rattle.c_syntax.specs.declared.token.Punct.TheVariants as p
-use Rattle.c_grammar.specs.Tokens.{Names}
 use Rattle.parse_file.specs.Read as r
 use Rattle.parse_file.specs.Read.{Found, Front}
 use Rattle.parse_file.specs.Views.{and_then}
@@ -35,26 +34,24 @@ unfolding r.front_of
 front_ends end zero f h = nothing_after f
 front_ends end (suc turns) f h = absurd (omega arith)
 
-pub front_stops : (end turns : ℕ) (f : Front) (names : Names) → names ≡ f.names → r.decl_at names end f.left ≡ None → and_then f (r.front_of end turns f.names f.left) ≡ f
+pub front_stops : (end turns : ℕ) (f : Front) → r.decl_at f.names end f.left ≡ None → and_then f (r.front_of end turns f.names f.left) ≡ f
 unfolding r.front_of
-front_stops end zero f names is h = nothing_after f
-front_stops end (suc turns) f names is h =
-    let none : r.decl_at f.names end f.left ≡ None = ap (λ names. r.decl_at names end f.left) (sym is) ∙ h in
-    rw none (nothing_after f)
+front_stops end zero f h = nothing_after f
+front_stops end (suc turns) f h = rw h (nothing_after f)
 
 front_goes : (end turns : ℕ) (f : Front) (x : Found) (rest : List Token) → r.decl_at f.names end f.left ≡ Some (x, rest)
     → and_then f (r.front_of end (suc turns) f.names f.left) ≡ and_then f (r.before_front x (r.front_of end turns (f.names ++ x.names) rest))
 unfolding r.front_of
 front_goes end turns f x rest h = rw h refl
 
-pub front_turn : (end turns turns' : ℕ) (f f' : Front) (names : Names) (x : Found) (rest : List Token) → turns ≡ turns' + 1 → names ≡ f.names → r.decl_at names end f.left ≡ Some (x, rest)
+pub front_turn : (end turns turns' : ℕ) (f f' : Front) (x : Found) (rest : List Token) → turns ≡ turns' + 1 → r.decl_at f.names end f.left ≡ Some (x, rest)
     → f'.decls ≡ f.decls ++ x.decls → f'.names ≡ f.names ++ x.names → f'.lines ≡ f.lines ++ x.lines → f'.left ≡ rest
     → and_then f' (r.front_of end turns' f'.names f'.left) ≡ and_then f (r.front_of end turns f.names f.left)
-front_turn end turns turns' f f' known x rest more is read decls names lines left =
+front_turn end turns turns' f f' x rest more read decls names lines left =
     let one : turns ≡ suc turns' = omega arith in
     let g = r.front_of end turns' (f.names ++ x.names) rest in
     let moved : and_then f' (r.front_of end turns' f'.names f'.left) ≡ and_then (record { decls = f.decls ++ x.decls; names = f.names ++ x.names; lines = f.lines ++ x.lines; left = rest }) g =
     (λ i. and_then (record { decls = decls i; names = names i; lines = lines i; left = left i }) (r.front_of end turns' (names i) (left i))) in
     let grouped : and_then (record { decls = f.decls ++ x.decls; names = f.names ++ x.names; lines = f.lines ++ x.lines; left = rest }) g ≡ and_then f (r.before_front x g) =
     (λ i. record { decls = append_assoc f.decls x.decls g.decls i; names = g.names; lines = append_assoc f.lines x.lines g.lines i; left = g.left }) in
-    moved ∙ grouped ∙ sym (ap (λ turns. and_then f (r.front_of end turns f.names f.left)) one ∙ front_goes end turns' f x rest (ap (λ names. r.decl_at names end f.left) (sym is) ∙ read))
+    moved ∙ grouped ∙ sym (ap (λ turns. and_then f (r.front_of end turns f.names f.left)) one ∙ front_goes end turns' f x rest read)

@@ -12,14 +12,14 @@ use crate::function::{contract_part, function_at, no_contract};
 use crate::lines::only;
 use acsl_parser::logics_at;
 use c_grammar::{
-    DEEPEST, Fault, MOST_WITHIN, Read, annot_close_at, annot_open_at, expect, first_line,
-    new_name_at, punct_at, word_at,
+    DEEPEST, Fault, MOST_WITHIN, Read, TypeNames, annot_close_at, annot_open_at, expect,
+    first_line, new_name_at, punct_at, word_at,
 };
 use c_syntax::{CType, Decl, EnumDecl, LogicDecl, Punct, StructDecl, Token, Word};
 use parse_decls::{declarator_at, enumerators_at, fields_at, linkage_at, variables_after};
 use parse_types::type_at;
 use std::alloc::Global;
-use wp_base::{List, NoMemory, Str};
+use wp_base::{List, NoMemory};
 
 // One declaration, and nothing beside it.
 fn alone(alloc: Global, decl: Decl) -> Result<Found, NoMemory>
@@ -44,7 +44,7 @@ fn logic_decls(alloc: Global, logics: List<LogicDecl>) -> Result<List<Decl>, NoM
 }
 
 #[tactic(auto, unfolding(crate::specs::Read::definitions_at))]
-fn definitions_at<'a>(alloc: Global, types: &[Str], tokens: &'a [Token]) -> Read<'a, Found>
+fn definitions_at<'a>(alloc: Global, types: &TypeNames, tokens: &'a [Token]) -> Read<'a, Found>
     ensures { Gives view_found result (spec.definitions_at types.now tokens.now) }
 {
     let Some((_, inside)) = annot_open_at(tokens) else {
@@ -65,7 +65,7 @@ fn definitions_at<'a>(alloc: Global, types: &[Str], tokens: &'a [Token]) -> Read
 #[tactic(auto, unfolding(crate::specs::Read::contracted_at))]
 fn contracted_at<'a>(
     alloc: Global,
-    types: &[Str],
+    types: &TypeNames,
     end: usize,
     tokens: &'a [Token],
 ) -> Read<'a, Found>
@@ -77,7 +77,7 @@ fn contracted_at<'a>(
 }
 
 #[tactic(auto, unfolding(crate::specs::Read::typedef_at))]
-fn typedef_at<'a>(alloc: Global, types: &[Str], tokens: &'a [Token]) -> Read<'a, Found>
+fn typedef_at<'a>(alloc: Global, types: &TypeNames, tokens: &'a [Token]) -> Read<'a, Found>
     ensures { Gives view_found result (spec.typedef_at types.now tokens.now) }
 {
     let Some((_, rest)) = word_at(Word::Typedef, tokens) else {
@@ -96,7 +96,7 @@ fn typedef_at<'a>(alloc: Global, types: &[Str], tokens: &'a [Token]) -> Read<'a,
 }
 
 #[tactic(auto, unfolding(crate::specs::Read::struct_at))]
-fn struct_at<'a>(alloc: Global, types: &[Str], tokens: &'a [Token]) -> Read<'a, Found>
+fn struct_at<'a>(alloc: Global, types: &TypeNames, tokens: &'a [Token]) -> Read<'a, Found>
     ensures { Gives view_found result (spec.struct_at types.now tokens.now) }
 {
     let Some((_, rest)) = word_at(Word::Struct, tokens) else {
@@ -112,7 +112,7 @@ fn struct_at<'a>(alloc: Global, types: &[Str], tokens: &'a [Token]) -> Read<'a, 
 }
 
 #[tactic(auto, unfolding(crate::specs::Read::enum_at))]
-fn enum_at<'a>(alloc: Global, types: &[Str], tokens: &'a [Token]) -> Read<'a, Found>
+fn enum_at<'a>(alloc: Global, types: &TypeNames, tokens: &'a [Token]) -> Read<'a, Found>
     ensures { Gives view_found result (spec.enum_at types.now tokens.now) }
 {
     let Some((line, rest)) = word_at(Word::Enum, tokens) else {
@@ -132,7 +132,12 @@ fn enum_at<'a>(alloc: Global, types: &[Str], tokens: &'a [Token]) -> Read<'a, Fo
 }
 
 #[tactic(auto, unfolding(crate::specs::Read::globals_at))]
-fn globals_at<'a>(alloc: Global, types: &[Str], ty: &CType, tokens: &'a [Token]) -> Read<'a, Found>
+fn globals_at<'a>(
+    alloc: Global,
+    types: &TypeNames,
+    ty: &CType,
+    tokens: &'a [Token],
+) -> Read<'a, Found>
     ensures { Gives view_found result (spec.globals_at types.now (view_ctype ty.now) tokens.now) }
 {
     let (vars, rest) = variables_after(alloc, types, DEEPEST, ty, tokens)?;
@@ -140,7 +145,12 @@ fn globals_at<'a>(alloc: Global, types: &[Str], ty: &CType, tokens: &'a [Token])
 }
 
 #[tactic(auto, unfolding(crate::specs::Read::plain_at))]
-fn plain_at<'a>(alloc: Global, types: &[Str], end: usize, tokens: &'a [Token]) -> Read<'a, Found>
+fn plain_at<'a>(
+    alloc: Global,
+    types: &TypeNames,
+    end: usize,
+    tokens: &'a [Token],
+) -> Read<'a, Found>
     ensures { Gives view_found result (spec.plain_at types.now end tokens.now) }
 {
     let (ty, rest) = type_at(alloc, types, linkage_at(tokens))?;
@@ -154,7 +164,12 @@ fn plain_at<'a>(alloc: Global, types: &[Str], end: usize, tokens: &'a [Token]) -
 
 /// A declaration, and the tokens after it. `end` is the number of all tokens.
 #[tactic(auto, unfolding(crate::specs::Read::decl_at))]
-pub fn decl_at<'a>(alloc: Global, types: &[Str], end: usize, tokens: &'a [Token]) -> Read<'a, Found>
+pub fn decl_at<'a>(
+    alloc: Global,
+    types: &TypeNames,
+    end: usize,
+    tokens: &'a [Token],
+) -> Read<'a, Found>
     ensures { Gives view_found result (spec.decl_at types.now end tokens.now) }
 {
     match form_of(tokens) {

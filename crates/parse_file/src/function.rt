@@ -10,7 +10,8 @@ use crate::found::{Found, Lines};
 use crate::lines::{only, split_params};
 use acsl_parser::contract_at;
 use c_grammar::{
-    Fault, MOST_WITHIN, Read, annot_close_at, annot_open_at, expect, new_name_at, punct_at,
+    Fault, MOST_WITHIN, Read, TypeNames, annot_close_at, annot_open_at, expect, new_name_at,
+    punct_at,
 };
 use c_syntax::{
     AssignsClause, CType, Contract, Decl, Function, Punct, Stmt, StmtNode, Token, VarDecl,
@@ -45,7 +46,7 @@ pub fn no_contract(alloc: Global) -> Contract
 #[tactic(auto, unfolding(crate::specs::Read::contract_part))]
 pub fn contract_part<'a>(
     alloc: Global,
-    types: &[Str],
+    types: &TypeNames,
     end: usize,
     tokens: &'a [Token],
 ) -> Read<'a, Contract>
@@ -71,7 +72,12 @@ pub struct Header {
 }
 
 #[tactic(auto, unfolding(crate::specs::Read::header_at))]
-fn header_at<'a>(alloc: Global, types: &[Str], ty: CType, tokens: &'a [Token]) -> Read<'a, Header>
+fn header_at<'a>(
+    alloc: Global,
+    types: &TypeNames,
+    ty: CType,
+    tokens: &'a [Token],
+) -> Read<'a, Header>
     ensures { Gives view_header result (spec.header_at types.now (view_ctype ty) tokens.now) }
 {
     let (result, rest) = stars_at(alloc, false, ty, tokens)?;
@@ -97,7 +103,12 @@ pub struct Ending {
 }
 
 #[tactic(auto, using(c_syntax::proofs::Equations::stmt_laws), unfolding(crate::specs::Read::ending_at))]
-fn ending_at<'a>(alloc: Global, types: &[Str], end: usize, tokens: &'a [Token]) -> Read<'a, Ending>
+fn ending_at<'a>(
+    alloc: Global,
+    types: &TypeNames,
+    end: usize,
+    tokens: &'a [Token],
+) -> Read<'a, Ending>
     ensures { Gives view_ending result (spec.ending_at types.now end tokens.now) }
 {
     if let Some((line, rest)) = punct_at(Punct::Semicolon, tokens) {
@@ -157,7 +168,7 @@ fn function_of(
 #[tactic(auto, unfolding(crate::specs::Read::function_at))]
 pub fn function_at<'a>(
     alloc: Global,
-    types: &[Str],
+    types: &TypeNames,
     end: usize,
     first: Line,
     contract: Contract,

@@ -7,13 +7,13 @@ ghost use Rattle.parse_leaf_stmts.specs.Views.{view_head};
 
 use crate::forms::{Form, form_of};
 use acsl_parser::{assert_at, loop_at};
-use c_grammar::{Fault, Read, annot_close_at, expect, first_line, punct_at, word_at};
+use c_grammar::{Fault, Read, TypeNames, annot_close_at, expect, first_line, punct_at, word_at};
 use c_syntax::{Expr, LoopAnnot, Punct, Stmt, StmtNode, Token, Word};
 use parse_decls::variables_at;
 use parse_exprs::{cond_at, expr_at};
 use parse_types::starts_type;
 use std::alloc::Global;
-use wp_base::{Line, Str};
+use wp_base::Line;
 
 /// How many tokens the file has, and what is around a statement: whether a loop is, and whether a
 /// loop or a `switch` is.
@@ -28,7 +28,7 @@ pub struct Around {
 #[tactic(auto, unfolding(crate::specs::Read::ended_at))]
 fn ended_at<'a>(
     alloc: Global,
-    types: &[Str],
+    types: &TypeNames,
     room: u32,
     close: Punct,
     tokens: &'a [Token],
@@ -42,7 +42,12 @@ fn ended_at<'a>(
 
 /// An expression in parentheses.
 #[tactic(auto, unfolding(crate::specs::Read::test_at))]
-pub fn test_at<'a>(alloc: Global, types: &[Str], room: u32, tokens: &'a [Token]) -> Read<'a, Expr>
+pub fn test_at<'a>(
+    alloc: Global,
+    types: &TypeNames,
+    room: u32,
+    tokens: &'a [Token],
+) -> Read<'a, Expr>
     ensures { Gives view_expr result (spec.test_at types.now room tokens.now) }
 {
     let (_, rest) = expect(Punct::OpenParen, tokens)?;
@@ -53,7 +58,7 @@ pub fn test_at<'a>(alloc: Global, types: &[Str], room: u32, tokens: &'a [Token])
 #[tactic(auto, unfolding(crate::specs::Read::optional_at))]
 pub fn optional_at<'a>(
     alloc: Global,
-    types: &[Str],
+    types: &TypeNames,
     room: u32,
     close: Punct,
     tokens: &'a [Token],
@@ -69,7 +74,12 @@ pub fn optional_at<'a>(
 
 /// A declaration of variables.
 #[tactic(auto, using(c_syntax::proofs::Equations::stmt_laws), unfolding(crate::specs::Read::locals_at))]
-pub fn locals_at<'a>(alloc: Global, types: &[Str], room: u32, tokens: &'a [Token]) -> Read<'a, Stmt>
+pub fn locals_at<'a>(
+    alloc: Global,
+    types: &TypeNames,
+    room: u32,
+    tokens: &'a [Token],
+) -> Read<'a, Stmt>
     ensures { Gives view_stmt result (spec.locals_at types.now room tokens.now) }
 {
     let line = first_line(tokens);
@@ -80,7 +90,7 @@ pub fn locals_at<'a>(alloc: Global, types: &[Str], room: u32, tokens: &'a [Token
 
 // An expression and a semicolon.
 #[tactic(auto, using(c_syntax::proofs::Equations::stmt_laws), unfolding(crate::specs::Read::value_at))]
-fn value_at<'a>(alloc: Global, types: &[Str], room: u32, tokens: &'a [Token]) -> Read<'a, Stmt>
+fn value_at<'a>(alloc: Global, types: &TypeNames, room: u32, tokens: &'a [Token]) -> Read<'a, Stmt>
     ensures { Gives view_stmt result (spec.value_at types.now room tokens.now) }
 {
     let line = first_line(tokens);
@@ -91,7 +101,7 @@ fn value_at<'a>(alloc: Global, types: &[Str], room: u32, tokens: &'a [Token]) ->
 
 // What a `for` does first.
 #[tactic(auto, using(c_syntax::proofs::Equations::stmt_laws), unfolding(crate::specs::Read::first_at))]
-fn first_at<'a>(alloc: Global, types: &[Str], room: u32, tokens: &'a [Token]) -> Read<'a, Stmt>
+fn first_at<'a>(alloc: Global, types: &TypeNames, room: u32, tokens: &'a [Token]) -> Read<'a, Stmt>
     ensures { Gives view_stmt result (spec.first_at types.now room tokens.now) }
 {
     if let Some((line, rest)) = punct_at(Punct::Semicolon, tokens) {
@@ -114,7 +124,12 @@ pub struct Head {
 
 /// What comes behind `for`, up to its body.
 #[tactic(auto, unfolding(crate::specs::Read::head_at))]
-pub fn head_at<'a>(alloc: Global, types: &[Str], room: u32, tokens: &'a [Token]) -> Read<'a, Head>
+pub fn head_at<'a>(
+    alloc: Global,
+    types: &TypeNames,
+    room: u32,
+    tokens: &'a [Token],
+) -> Read<'a, Head>
     ensures { Gives view_head result (spec.head_at types.now room tokens.now) }
 {
     let (_, rest) = expect(Punct::OpenParen, tokens)?;
@@ -126,7 +141,12 @@ pub fn head_at<'a>(alloc: Global, types: &[Str], room: u32, tokens: &'a [Token])
 
 /// What comes behind the body of a `do`.
 #[tactic(auto, unfolding(crate::specs::Read::do_end_at))]
-pub fn do_end_at<'a>(alloc: Global, types: &[Str], room: u32, tokens: &'a [Token]) -> Read<'a, Expr>
+pub fn do_end_at<'a>(
+    alloc: Global,
+    types: &TypeNames,
+    room: u32,
+    tokens: &'a [Token],
+) -> Read<'a, Expr>
     ensures { Gives view_expr result (spec.do_end_at types.now room tokens.now) }
 {
     let Some((_, rest)) = word_at(Word::While, tokens) else {
@@ -141,7 +161,7 @@ pub fn do_end_at<'a>(alloc: Global, types: &[Str], room: u32, tokens: &'a [Token
 #[tactic(auto, using(c_syntax::proofs::Equations::stmt_laws), unfolding(crate::specs::Read::case_at))]
 pub fn case_at<'a>(
     alloc: Global,
-    types: &[Str],
+    types: &TypeNames,
     room: u32,
     line: Line,
     tokens: &'a [Token],
@@ -194,7 +214,7 @@ fn continue_at<'a>(allowed: bool, line: Line, tokens: &'a [Token]) -> Read<'a, S
 #[tactic(auto, using(c_syntax::proofs::Equations::stmt_laws), unfolding(crate::specs::Read::return_at))]
 fn return_at<'a>(
     alloc: Global,
-    types: &[Str],
+    types: &TypeNames,
     room: u32,
     line: Line,
     tokens: &'a [Token],
@@ -210,7 +230,7 @@ fn return_at<'a>(
 #[tactic(auto, using(c_syntax::proofs::Equations::stmt_laws), unfolding(crate::specs::Read::plain_at))]
 pub fn plain_at<'a>(
     alloc: Global,
-    types: &[Str],
+    types: &TypeNames,
     around: Around,
     room: u32,
     tokens: &'a [Token],
@@ -238,7 +258,7 @@ pub fn plain_at<'a>(
 #[tactic(auto, using(c_syntax::proofs::Equations::stmt_laws), unfolding(crate::specs::Read::assertion_at))]
 pub fn assertion_at<'a>(
     alloc: Global,
-    types: &[Str],
+    types: &TypeNames,
     room: u32,
     tokens: &'a [Token],
 ) -> Read<'a, Stmt>
@@ -256,7 +276,7 @@ pub fn assertion_at<'a>(
 #[tactic(auto, unfolding(crate::specs::Read::loop_annot_at))]
 pub fn loop_annot_at<'a>(
     alloc: Global,
-    types: &[Str],
+    types: &TypeNames,
     room: u32,
     end: usize,
     tokens: &'a [Token],

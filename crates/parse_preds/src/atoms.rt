@@ -6,14 +6,19 @@ ghost use Rattle.c_grammar.specs.Views.{Gives};
 ghost use Rattle.parse_terms.specs.Read.{pointer_at as pointer_of, some_terms_at as some_terms_of};
 ghost use Rattle.parse_preds.specs.Read as spec;
 
-use c_grammar::{Fault, Read, expect, is_type, punct_at};
+use c_grammar::{Fault, Read, TypeNames, expect, is_type, punct_at};
 use c_syntax::{Pred, PredNode, Punct, Term, Token};
 use parse_terms::{pointer_at, some_terms_at};
 use std::alloc::Global;
 use wp_base::{Boxed, Line, List, NoMemory, Str};
 
 // A pointer in parentheses.
-fn pointer_in<'a>(alloc: Global, types: &[Str], room: u32, tokens: &'a [Token]) -> Read<'a, Term>
+fn pointer_in<'a>(
+    alloc: Global,
+    types: &TypeNames,
+    room: u32,
+    tokens: &'a [Token],
+) -> Read<'a, Term>
     ensures { Gives view_term result (spec.bracketed (spec.under (pointer_of types.now) room) tokens.now) }
 {
     let (_, rest) = expect(Punct::OpenParen, tokens)?;
@@ -44,7 +49,7 @@ fn valid_read(alloc: Global, line: Line, pointer: Term) -> Result<Pred, NoMemory
 /// What comes behind `\valid`.
 pub fn valid_at<'a>(
     alloc: Global,
-    types: &[Str],
+    types: &TypeNames,
     room: u32,
     line: Line,
     tokens: &'a [Token],
@@ -58,7 +63,7 @@ pub fn valid_at<'a>(
 /// What comes behind `\valid_read`.
 pub fn valid_read_at<'a>(
     alloc: Global,
-    types: &[Str],
+    types: &TypeNames,
     room: u32,
     line: Line,
     tokens: &'a [Token],
@@ -73,7 +78,7 @@ pub fn valid_read_at<'a>(
 #[tactic(auto, using(c_grammar::proofs::Turns::items_end, c_grammar::proofs::Turns::items_stop))]
 fn more_pointers<'a>(
     alloc: Global,
-    types: &[Str],
+    types: &TypeNames,
     room: u32,
     first: Term,
     second: Term,
@@ -100,7 +105,7 @@ fn more_pointers<'a>(
 #[tactic(auto, unfolding(crate::specs::Read::pointers_at))]
 fn pointers_at<'a>(
     alloc: Global,
-    types: &[Str],
+    types: &TypeNames,
     room: u32,
     tokens: &'a [Token],
 ) -> Read<'a, List<Term>>
@@ -116,7 +121,7 @@ fn pointers_at<'a>(
 #[tactic(auto, using(c_syntax::proofs::Equations::pred_laws))]
 pub fn separated_at<'a>(
     alloc: Global,
-    types: &[Str],
+    types: &TypeNames,
     room: u32,
     line: Line,
     tokens: &'a [Token],
@@ -136,7 +141,7 @@ pub fn separated_at<'a>(
 // The arguments of a predicate, behind the opening parenthesis.
 fn arguments<'a>(
     alloc: Global,
-    types: &[Str],
+    types: &TypeNames,
     room: u32,
     tokens: &'a [Token],
 ) -> Read<'a, List<Term>>
@@ -154,7 +159,7 @@ fn arguments<'a>(
 #[tactic(auto, using(c_syntax::proofs::Equations::pred_laws))]
 pub fn named_at<'a>(
     alloc: Global,
-    types: &[Str],
+    types: &TypeNames,
     room: u32,
     name: &Str,
     line: Line,

@@ -1,57 +1,36 @@
 // Types and names that annotations declare (ACSL 2.2, 2.6.1).
-ghost use Rattle.std.specs.Prelude.{◌≡◌, IfOk, length, map, codes};
+ghost use Rattle.std.specs.Prelude.{◌≡◌, map};
 ghost use Rattle.c_syntax.specs.View.{view_ctype, view_var};
-ghost use Rattle.c_grammar.specs.Preds.{without_integer as without_integer_of};
-ghost use Rattle.c_grammar.specs.Tokens.{is_type as is_typedef_name};
+ghost use Rattle.c_grammar.specs.Preds.{without_integer};
 ghost use Rattle.c_grammar.specs.Views.{Gives};
 ghost use Rattle.c_grammar.specs.ListReaders.{with_items};
 ghost use Rattle.parse_types.specs.Read.{type_name_at as type_name_of};
 ghost use Rattle.parse_preds.specs.Binders as spec;
 
-use c_grammar::{Read, keyword_at, new_name_at, punct_at};
+use c_grammar::{Fault, Read, TypeNames, keyword_at, new_name_at, punct_at};
 use c_syntax::{CType, Punct, Token, TokenKind, VarDecl};
-use parse_types::{starts_type, type_name_at};
+use parse_types::{consts_at, starts_type, type_name_at};
 use std::alloc::Global;
-use wp_base::{List, NoMemory, Str};
+use wp_base::List;
 
 /// The name of the unbounded type.
 const INTEGER: &[u8] = b"integer";
 
-// Whether a typedef declared the name `integer`.
-fn hides_integer(types: &[Str]) -> bool
-    ensures { result ≡ is_typedef_name types.now (codes "integer") }
-{
-    types.iter().any(|name| name.bytes() == INTEGER)
-}
-
-// The typedef names without `integer`.
-fn without_integer(alloc: Global, types: &[Str]) -> Result<Vec<Str>, NoMemory>
-    ensures { IfOk result (λ kept. kept.items ≡ without_integer_of types.now) }
-{
-    let mut kept = Vec::new(alloc);
-    for name in types {
-        if name.bytes() != INTEGER {
-            kept.push(name.copy(alloc)?)?;
-        }
-    }
-    Ok(kept)
-}
-
 // The name of a type of C, where `integer` is none.
-#[tactic(auto, using(crate::proofs::Binding::without_none))]
-fn plain_type_at<'a>(alloc: Global, types: &[Str], tokens: &'a [Token]) -> Read<'a, CType>
-    ensures { Gives view_ctype result (type_name_of (without_integer_of types.now) tokens.now) }
+#[tactic(auto, using(crate::proofs::Binding::integer_named, crate::proofs::Binding::other_named))]
+fn plain_type_at<'a>(alloc: Global, types: &TypeNames, tokens: &'a [Token]) -> Read<'a, CType>
+    ensures { Gives view_ctype result (type_name_of (without_integer types.now) tokens.now) }
 {
-    if !hides_integer(types) {
-        return type_name_at(alloc, types, tokens);
+    let (_, named) = consts_at(tokens);
+    match keyword_at(INTEGER, named) {
+        Some(_) => Err(Fault::Syntax),
+        None => type_name_at(alloc, types, tokens),
     }
-    let kept = without_integer(alloc, types)?;
-    type_name_at(alloc, kept.as_slice(), tokens)
 }
 
 /// A type of an annotation: `integer`, or the name of a type of C; and the tokens after it.
 #[tactic(auto, using(c_syntax::proofs::Equations::expr_laws), unfolding(crate::specs::Binders::logic_type_at))]
-pub fn logic_type_at<'a>(alloc: Global, types: &[Str], tokens: &'a [Token]) -> Read<'a, CType>
+pub fn logic_type_at<'a>(alloc: Global, types: &TypeNames, tokens: &'a [Token]) -> Read<'a, CType>
     ensures { Gives view_ctype result (spec.logic_type_at types.now tokens.now) }
 {
     match keyword_at(INTEGER, tokens) {
@@ -64,7 +43,7 @@ pub fn logic_type_at<'a>(alloc: Global, types: &[Str], tokens: &'a [Token]) -> R
 #[tactic(auto, unfolding(crate::specs::Binders::declared_at))]
 fn declared_at<'a>(
     alloc: Global,
-    types: &[Str],
+    types: &TypeNames,
     ty: CType,
     tokens: &'a [Token],
 ) -> Read<'a, VarDecl>
@@ -82,7 +61,7 @@ fn declared_at<'a>(
 
 /// A type and a name, and the tokens after them.
 #[tactic(auto, unfolding(crate::specs::Binders::typed_at))]
-pub fn typed_at<'a>(alloc: Global, types: &[Str], tokens: &'a [Token]) -> Read<'a, VarDecl>
+pub fn typed_at<'a>(alloc: Global, types: &TypeNames, tokens: &'a [Token]) -> Read<'a, VarDecl>
     ensures { Gives view_var result (spec.typed_at types.now tokens.now) }
 {
     let (ty, rest) = logic_type_at(alloc, types, tokens)?;
@@ -104,7 +83,7 @@ fn is_name(tokens: &[Token]) -> bool
 
 // Whether a type comes next, where a name may come in its place.
 #[tactic(auto, unfolding(crate::specs::Binders::type_comes))]
-fn type_comes(types: &[Str], tokens: &[Token]) -> bool
+fn type_comes(types: &TypeNames, tokens: &[Token]) -> bool
     ensures { result ≡ spec.type_comes types.now tokens.now }
 {
     match keyword_at(INTEGER, tokens) {
@@ -115,7 +94,12 @@ fn type_comes(types: &[Str], tokens: &[Token]) -> bool
 
 // A name, with a type before it or of this one.
 #[tactic(auto, unfolding(crate::specs::Binders::binder_at))]
-fn binder_at<'a>(alloc: Global, types: &[Str], ty: &CType, tokens: &'a [Token]) -> Read<'a, VarDecl>
+fn binder_at<'a>(
+    alloc: Global,
+    types: &TypeNames,
+    ty: &CType,
+    tokens: &'a [Token],
+) -> Read<'a, VarDecl>
     ensures { Gives view_var result (spec.binder_at types.now (view_ctype ty.now) tokens.now) }
 {
     if type_comes(types, tokens) {
@@ -128,7 +112,7 @@ fn binder_at<'a>(alloc: Global, types: &[Str], ty: &CType, tokens: &'a [Token]) 
 #[tactic(auto, using(crate::proofs::Binding::more_binders_end, crate::proofs::Binding::more_binders_stop))]
 fn more_binders<'a>(
     alloc: Global,
-    types: &[Str],
+    types: &TypeNames,
     first: VarDecl,
     tokens: &'a [Token],
 ) -> Read<'a, List<VarDecl>>
@@ -152,7 +136,11 @@ fn more_binders<'a>(
 
 /// The binders of a quantifier: a type and names, where further types may stand before further names.
 #[tactic(auto, unfolding(crate::specs::Binders::binders_at))]
-pub fn binders_at<'a>(alloc: Global, types: &[Str], tokens: &'a [Token]) -> Read<'a, List<VarDecl>>
+pub fn binders_at<'a>(
+    alloc: Global,
+    types: &TypeNames,
+    tokens: &'a [Token],
+) -> Read<'a, List<VarDecl>>
     ensures { Gives (map view_var) result (spec.binders_at types.now tokens.now) }
 {
     let (first, rest) = typed_at(alloc, types, tokens)?;

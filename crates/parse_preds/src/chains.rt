@@ -9,11 +9,11 @@ ghost use Rattle.parse_preds.specs.Read as spec;
 ghost use Rattle.parse_preds.specs.Views.{view_tail};
 
 use crate::next::comparison_at;
-use c_grammar::{Fault, Read};
+use c_grammar::{Fault, Read, TypeNames};
 use c_syntax::{BinOp, Pred, PredNode, Term, Token};
 use parse_terms::chain_term_at;
 use std::alloc::Global;
-use wp_base::{List, Str};
+use wp_base::List;
 
 fn goes_up(op: BinOp) -> bool
     ensures { result ≡ goes_up_of op }
@@ -71,7 +71,7 @@ fn is_chain(ops: &[BinOp]) -> bool
 #[tactic(auto, using(crate::proofs::Reading::tail_end, crate::proofs::Reading::tail_stop))]
 fn tail_at<'a>(
     alloc: Global,
-    types: &[Str],
+    types: &TypeNames,
     room: u32,
     first: Term,
     tokens: &'a [Token],
@@ -96,7 +96,12 @@ fn tail_at<'a>(
 
 /// A chain of comparisons, with the line of the first one.
 #[tactic(auto, using(c_syntax::proofs::Equations::pred_laws), unfolding(crate::specs::Read::chain_at))]
-pub fn chain_at<'a>(alloc: Global, types: &[Str], room: u32, tokens: &'a [Token]) -> Read<'a, Pred>
+pub fn chain_at<'a>(
+    alloc: Global,
+    types: &TypeNames,
+    room: u32,
+    tokens: &'a [Token],
+) -> Read<'a, Pred>
     ensures { Gives view_pred result (spec.chain_at types.now room tokens.now) }
 {
     let (first, rest) = chain_term_at(alloc, types, room, tokens)?;

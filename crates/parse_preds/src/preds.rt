@@ -17,7 +17,7 @@ use crate::chains::chain_at;
 use crate::next::connective_at;
 use crate::parts::{Frame, Part, all_closed, connected_part, equivalent_part, opened};
 use crate::trees::{always, either_arm, implied_by, negated, never, not_sooner};
-use c_grammar::{Fault, Read, expect, new_name_at, punct_at};
+use c_grammar::{Fault, Read, TypeNames, expect, new_name_at, punct_at};
 use c_syntax::{Pred, Punct, Term, Token, TokenKind, VarDecl, Word};
 use parse_terms::{begins_chain, term_at};
 use std::alloc::Global;
@@ -32,7 +32,7 @@ enum Form {
 }
 
 // The binders of a quantifier, and a semicolon.
-fn bound_at<'a>(alloc: Global, types: &[Str], tokens: &'a [Token]) -> Read<'a, List<VarDecl>>
+fn bound_at<'a>(alloc: Global, types: &TypeNames, tokens: &'a [Token]) -> Read<'a, List<VarDecl>>
     ensures { Gives (map view_var) result (spec.bound_at types.now tokens.now) }
 {
     let (binders, rest) = binders_at(alloc, types, tokens)?;
@@ -43,7 +43,7 @@ fn bound_at<'a>(alloc: Global, types: &[Str], tokens: &'a [Token]) -> Read<'a, L
 // The name of a `\let`, its value, and a semicolon.
 fn value_at<'a>(
     alloc: Global,
-    types: &[Str],
+    types: &TypeNames,
     room: u32,
     tokens: &'a [Token],
 ) -> Read<'a, (Str, Term)>
@@ -57,7 +57,7 @@ fn value_at<'a>(
 }
 
 // What comes behind `\forall`, up to its body.
-fn for_all<'a>(alloc: Global, types: &[Str], line: Line, tokens: &'a [Token]) -> Read<'a, Part>
+fn for_all<'a>(alloc: Global, types: &TypeNames, line: Line, tokens: &'a [Token]) -> Read<'a, Part>
     ensures { Gives part.view_part result (spec.seen_as (λ xs. part.open_before (r.for_all line xs)) (spec.bound_at types.now tokens.now)) }
 {
     let (binders, rest) = bound_at(alloc, types, tokens)?;
@@ -65,7 +65,7 @@ fn for_all<'a>(alloc: Global, types: &[Str], line: Line, tokens: &'a [Token]) ->
 }
 
 // What comes behind `\exists`, up to its body.
-fn for_some<'a>(alloc: Global, types: &[Str], line: Line, tokens: &'a [Token]) -> Read<'a, Part>
+fn for_some<'a>(alloc: Global, types: &TypeNames, line: Line, tokens: &'a [Token]) -> Read<'a, Part>
     ensures { Gives part.view_part result (spec.seen_as (λ xs. part.open_before (r.for_some line xs)) (spec.bound_at types.now tokens.now)) }
 {
     let (binders, rest) = bound_at(alloc, types, tokens)?;
@@ -75,7 +75,7 @@ fn for_some<'a>(alloc: Global, types: &[Str], line: Line, tokens: &'a [Token]) -
 // What comes behind `\let`, up to its body.
 fn let_in<'a>(
     alloc: Global,
-    types: &[Str],
+    types: &TypeNames,
     room: u32,
     line: Line,
     tokens: &'a [Token],
@@ -90,7 +90,7 @@ fn let_in<'a>(
 #[cycle(preds)]
 fn below<'a>(
     alloc: Global,
-    types: &[Str],
+    types: &TypeNames,
     room: u32,
     turns: usize,
     form: Form,
@@ -108,7 +108,7 @@ fn below<'a>(
 #[cycle(preds)]
 fn enclosed<'a>(
     alloc: Global,
-    types: &[Str],
+    types: &TypeNames,
     room: u32,
     turns: usize,
     tokens: &'a [Token],
@@ -124,7 +124,7 @@ fn enclosed<'a>(
 #[cycle(preds)]
 fn old_at<'a>(
     alloc: Global,
-    types: &[Str],
+    types: &TypeNames,
     room: u32,
     turns: usize,
     line: Line,
@@ -142,7 +142,7 @@ fn old_at<'a>(
 #[tactic(auto, using(c_syntax::proofs::Equations::pred_laws), unfolding(crate::specs::Read::atom_at))]
 fn atom<'a>(
     alloc: Global,
-    types: &[Str],
+    types: &TypeNames,
     room: u32,
     turns: usize,
     tokens: &'a [Token],
@@ -173,7 +173,7 @@ fn atom<'a>(
 #[cycle(preds)]
 fn atom_part<'a>(
     alloc: Global,
-    types: &[Str],
+    types: &TypeNames,
     room: u32,
     turns: usize,
     tokens: &'a [Token],
@@ -188,7 +188,7 @@ fn atom_part<'a>(
 #[cycle(preds)]
 fn not_at<'a>(
     alloc: Global,
-    types: &[Str],
+    types: &TypeNames,
     room: u32,
     turns: usize,
     line: Line,
@@ -205,7 +205,7 @@ fn not_at<'a>(
 #[tactic(auto, unfolding(crate::specs::Parts::operand_at))]
 fn operand<'a>(
     alloc: Global,
-    types: &[Str],
+    types: &TypeNames,
     room: u32,
     turns: usize,
     tokens: &'a [Token],
@@ -230,7 +230,7 @@ fn operand<'a>(
 #[tactic(auto, using(crate::proofs::Finished::joined_zero, crate::proofs::Finished::joined_more))]
 fn joined<'a>(
     alloc: Global,
-    types: &[Str],
+    types: &TypeNames,
     room: u32,
     turns: usize,
     level: u32,
@@ -254,7 +254,7 @@ fn joined<'a>(
 #[tactic(auto, using(crate::proofs::Finished::chain_part_ends, crate::proofs::Finished::chain_part_stops))]
 fn joined_on<'a>(
     alloc: Global,
-    types: &[Str],
+    types: &TypeNames,
     room: u32,
     turns: usize,
     level: u32,
@@ -285,7 +285,7 @@ fn joined_on<'a>(
 #[cycle(preds)]
 fn implied_on<'a>(
     alloc: Global,
-    types: &[Str],
+    types: &TypeNames,
     room: u32,
     turns: usize,
     left: Pred,
@@ -305,7 +305,7 @@ fn implied_on<'a>(
 #[tactic(auto, unfolding(crate::specs::Parts::implied_at))]
 fn implied<'a>(
     alloc: Global,
-    types: &[Str],
+    types: &TypeNames,
     room: u32,
     turns: usize,
     tokens: &'a [Token],
@@ -324,7 +324,7 @@ fn implied<'a>(
 #[tactic(auto, using(crate::proofs::Finished::iff_more))]
 fn equivalent<'a>(
     alloc: Global,
-    types: &[Str],
+    types: &TypeNames,
     room: u32,
     turns: usize,
     tokens: &'a [Token],
@@ -343,7 +343,7 @@ fn equivalent<'a>(
 #[tactic(auto, using(crate::proofs::Finished::chain_part_ends, crate::proofs::Finished::iff_part_stops))]
 fn equivalent_on<'a>(
     alloc: Global,
-    types: &[Str],
+    types: &TypeNames,
     room: u32,
     turns: usize,
     first: Pred,
@@ -371,7 +371,7 @@ fn equivalent_on<'a>(
 #[cycle(preds)]
 fn arms<'a>(
     alloc: Global,
-    types: &[Str],
+    types: &TypeNames,
     room: u32,
     turns: usize,
     tokens: &'a [Token],
@@ -388,7 +388,7 @@ fn arms<'a>(
 #[cycle(preds)]
 fn conditional<'a>(
     alloc: Global,
-    types: &[Str],
+    types: &TypeNames,
     room: u32,
     turns: usize,
     test: Pred,
@@ -408,7 +408,7 @@ fn conditional<'a>(
 #[tactic(auto, unfolding(crate::specs::Parts::whole_at))]
 fn whole<'a>(
     alloc: Global,
-    types: &[Str],
+    types: &TypeNames,
     room: u32,
     turns: usize,
     tokens: &'a [Token],
@@ -426,7 +426,7 @@ fn whole<'a>(
 #[cycle(preds)]
 fn part_at<'a>(
     alloc: Global,
-    types: &[Str],
+    types: &TypeNames,
     room: u32,
     turns: usize,
     form: Form,
@@ -447,7 +447,7 @@ fn part_at<'a>(
 #[tactic(auto, unfolding(crate::specs::Parts::around_all))]
 fn behind<'a>(
     alloc: Global,
-    types: &[Str],
+    types: &TypeNames,
     room: u32,
     turns: usize,
     first: List<Frame>,
@@ -476,7 +476,7 @@ fn behind<'a>(
 #[tactic(auto, using(crate::proofs::Finished::form_finished))]
 fn complete<'a>(
     alloc: Global,
-    types: &[Str],
+    types: &TypeNames,
     room: u32,
     turns: usize,
     form: Form,
@@ -493,7 +493,12 @@ fn complete<'a>(
 
 /// A predicate in which so many more forms may open, and the tokens after it.
 #[tactic(auto, unfolding(crate::specs::Read::pred_at))]
-pub fn pred_at<'a>(alloc: Global, types: &[Str], room: u32, tokens: &'a [Token]) -> Read<'a, Pred>
+pub fn pred_at<'a>(
+    alloc: Global,
+    types: &TypeNames,
+    room: u32,
+    tokens: &'a [Token],
+) -> Read<'a, Pred>
     ensures { Gives view_pred result (spec.pred_at types.now room tokens.now) }
 {
     complete(alloc, types, room, tokens.len(), Form::Whole, tokens)

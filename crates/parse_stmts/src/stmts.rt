@@ -5,7 +5,7 @@ ghost use Rattle.c_syntax.specs.View.{view_loop};
 ghost use Rattle.parse_stmts.specs.Read as spec;
 ghost use Rattle.parse_stmts.specs.Views.{other_with, stmt_with, stmts_with};
 
-use c_grammar::{Fault, Read, expect, first_line, if_of, keyword_at, punct_at, word_at};
+use c_grammar::{Fault, Read, TypeNames, expect, first_line, if_of, keyword_at, punct_at, word_at};
 use c_syntax::{LoopAnnot, Punct, Stmt, Token, Word};
 use parse_leaf_stmts::{
     Around, Form, assertion_at, block_of, case_at, default_at, do_end_at, do_of, for_of, form_of,
@@ -13,14 +13,14 @@ use parse_leaf_stmts::{
 };
 use parse_types::starts_type;
 use std::alloc::Global;
-use wp_base::{Boxed, Line, List, Str};
+use wp_base::{Boxed, Line, List};
 
 // What stands in the braces of a block, or in those of a `switch`.
 #[cycle(stmts)]
 #[tactic(auto, unfolding(crate::specs::Read::item))]
 fn item<'a>(
     alloc: Global,
-    types: &[Str],
+    types: &TypeNames,
     around: Around,
     cases: bool,
     room: u32,
@@ -50,7 +50,7 @@ fn item<'a>(
 #[tactic(auto, using(crate::proofs::Turns::stmts_out))]
 pub fn stmts<'a>(
     alloc: Global,
-    types: &[Str],
+    types: &TypeNames,
     around: Around,
     cases: bool,
     room: u32,
@@ -77,7 +77,7 @@ pub fn stmts<'a>(
 #[tactic(auto, unfolding(crate::specs::Read::braces))]
 fn braces<'a>(
     alloc: Global,
-    types: &[Str],
+    types: &TypeNames,
     around: Around,
     room: u32,
     line: Line,
@@ -95,7 +95,7 @@ fn braces<'a>(
 #[tactic(auto, unfolding(crate::specs::Read::body))]
 fn body<'a>(
     alloc: Global,
-    types: &[Str],
+    types: &TypeNames,
     around: Around,
     room: u32,
     starts: &mut List<Line>,
@@ -117,7 +117,7 @@ fn body<'a>(
 #[tactic(auto, unfolding(crate::specs::Read::otherwise))]
 fn otherwise<'a>(
     alloc: Global,
-    types: &[Str],
+    types: &TypeNames,
     around: Around,
     room: u32,
     starts: &mut List<Line>,
@@ -139,7 +139,7 @@ fn otherwise<'a>(
 #[tactic(auto, unfolding(crate::specs::Read::choice))]
 fn choice<'a>(
     alloc: Global,
-    types: &[Str],
+    types: &TypeNames,
     around: Around,
     room: u32,
     line: Line,
@@ -159,7 +159,7 @@ fn choice<'a>(
 #[tactic(auto, unfolding(crate::specs::Read::while_of))]
 fn while_loop<'a>(
     alloc: Global,
-    types: &[Str],
+    types: &TypeNames,
     around: Around,
     room: u32,
     annot: LoopAnnot,
@@ -179,7 +179,7 @@ fn while_loop<'a>(
 #[tactic(auto, unfolding(crate::specs::Read::do_of))]
 fn do_loop<'a>(
     alloc: Global,
-    types: &[Str],
+    types: &TypeNames,
     around: Around,
     room: u32,
     annot: LoopAnnot,
@@ -199,7 +199,7 @@ fn do_loop<'a>(
 #[tactic(auto, unfolding(crate::specs::Read::for_of))]
 fn for_loop<'a>(
     alloc: Global,
-    types: &[Str],
+    types: &TypeNames,
     around: Around,
     room: u32,
     annot: LoopAnnot,
@@ -219,7 +219,7 @@ fn for_loop<'a>(
 #[tactic(auto, unfolding(crate::specs::Read::looped))]
 fn looped<'a>(
     alloc: Global,
-    types: &[Str],
+    types: &TypeNames,
     around: Around,
     room: u32,
     annot: LoopAnnot,
@@ -250,7 +250,7 @@ fn looped<'a>(
 #[tactic(auto, unfolding(crate::specs::Read::switch_of))]
 fn switch<'a>(
     alloc: Global,
-    types: &[Str],
+    types: &TypeNames,
     around: Around,
     room: u32,
     line: Line,
@@ -278,7 +278,7 @@ fn switch<'a>(
 #[tactic(auto, unfolding(crate::specs::Read::annotated))]
 fn annotated<'a>(
     alloc: Global,
-    types: &[Str],
+    types: &TypeNames,
     around: Around,
     room: u32,
     starts: &mut List<Line>,
@@ -301,7 +301,7 @@ fn annotated<'a>(
 #[cycle(stmts)]
 fn started<'a>(
     alloc: Global,
-    types: &[Str],
+    types: &TypeNames,
     around: Around,
     room: u32,
     starts: &mut List<Line>,
@@ -342,7 +342,7 @@ fn started<'a>(
 #[tactic(auto, using(crate::proofs::Turns::stmt_is, crate::proofs::Turns::stmt_starts))]
 fn stmt<'a>(
     alloc: Global,
-    types: &[Str],
+    types: &TypeNames,
     around: Around,
     room: u32,
     starts: &mut List<Line>,

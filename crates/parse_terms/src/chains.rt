@@ -4,10 +4,9 @@ ghost use Rattle.c_grammar.specs.Reading.{past, punct_at};
 ghost use Rattle.parse_terms.specs.Next as spec;
 
 use crate::past::past_at;
-use c_grammar::punct_at;
+use c_grammar::{TypeNames, punct_at};
 use c_syntax::{Punct, Token, TokenKind, Word};
 use parse_types::starts_type;
-use wp_base::Str;
 
 fn continues_punct(punct: Punct) -> bool
     ensures { result ≡ spec.continues_punct punct }
@@ -88,7 +87,7 @@ fn word_begins(word: Word, tokens: &[Token]) -> bool
     }
 }
 
-fn punct_begins(types: &[Str], punct: Punct, tokens: &[Token]) -> bool
+fn punct_begins(types: &TypeNames, punct: Punct, tokens: &[Token]) -> bool
     ensures { result ≡ spec.punct_begins types.now punct tokens.now }
 {
     match punct {
@@ -100,7 +99,7 @@ fn punct_begins(types: &[Str], punct: Punct, tokens: &[Token]) -> bool
 
 /// Whether a predicate that begins here begins with a chain of comparisons.
 #[tactic(auto, unfolding(crate::specs::Next::begins_chain))]
-pub fn begins_chain(types: &[Str], tokens: &[Token]) -> bool
+pub fn begins_chain(types: &TypeNames, tokens: &[Token]) -> bool
     ensures { result ≡ spec.begins_chain types.now tokens.now }
 {
     let Some((first, rest)) = tokens.split_first() else {

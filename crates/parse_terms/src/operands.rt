@@ -10,7 +10,7 @@ use crate::nodes;
 use crate::place::Place;
 use crate::tokens::{Selector, cast_at, prefix_at, range_at, selector_at};
 use crate::wholes::{inner_term, spread_term, term, terms};
-use c_grammar::{Fault, Read, expect, is_type, name_at, punct_at};
+use c_grammar::{Fault, Read, TypeNames, expect, is_type, name_at, punct_at};
 use c_syntax::{Punct, Term, TermNode, Token, TokenKind, UnOp, Word};
 use parse_types::type_name_at;
 use std::alloc::Global;
@@ -21,7 +21,7 @@ use wp_base::{Line, List, Str};
 #[tactic(auto, using(crate::proofs::Reading::inner_none, crate::proofs::Reading::inner_some))]
 fn inner_operand<'a>(
     alloc: Global,
-    types: &[Str],
+    types: &TypeNames,
     place: Place,
     room: u32,
     tokens: &'a [Token],
@@ -39,7 +39,7 @@ fn inner_operand<'a>(
 #[tactic(auto, using(crate::proofs::Reading::inner_none, crate::proofs::Reading::inner_some, crate::proofs::Reading::group_is))]
 fn inner_group<'a>(
     alloc: Global,
-    types: &[Str],
+    types: &TypeNames,
     place: Place,
     room: u32,
     tokens: &'a [Token],
@@ -60,7 +60,7 @@ fn inner_group<'a>(
 #[tactic(auto, using(crate::proofs::Reading::operand_is))]
 pub(crate) fn operand<'a>(
     alloc: Global,
-    types: &[Str],
+    types: &TypeNames,
     place: Place,
     room: u32,
     tokens: &'a [Token],
@@ -79,7 +79,7 @@ pub(crate) fn operand<'a>(
 #[cycle(terms)]
 fn prefixed<'a>(
     alloc: Global,
-    types: &[Str],
+    types: &TypeNames,
     place: Place,
     room: u32,
     op: UnOp,
@@ -97,7 +97,7 @@ fn prefixed<'a>(
 #[cycle(terms)]
 fn cast<'a>(
     alloc: Global,
-    types: &[Str],
+    types: &TypeNames,
     place: Place,
     room: u32,
     line: Line,
@@ -117,7 +117,7 @@ fn cast<'a>(
 #[tactic(auto, using(crate::proofs::Reading::postfix_is))]
 fn postfix<'a>(
     alloc: Global,
-    types: &[Str],
+    types: &TypeNames,
     place: Place,
     room: u32,
     tokens: &'a [Token],
@@ -133,7 +133,7 @@ fn postfix<'a>(
 #[tactic(auto, using(crate::proofs::Reading::parts_end, crate::proofs::Reading::parts_stop))]
 fn parts<'a>(
     alloc: Global,
-    types: &[Str],
+    types: &TypeNames,
     place: Place,
     room: u32,
     first: Term,
@@ -157,7 +157,7 @@ fn parts<'a>(
 #[cycle(terms)]
 fn selected<'a>(
     alloc: Global,
-    types: &[Str],
+    types: &TypeNames,
     place: Place,
     room: u32,
     selector: Selector,
@@ -190,7 +190,7 @@ fn field(alloc: Global, line: Line, base: Term, arrow: bool, tokens: &[Token]) -
 #[cycle(terms)]
 fn offset<'a>(
     alloc: Global,
-    types: &[Str],
+    types: &TypeNames,
     place: Place,
     room: u32,
     tokens: &'a [Token],
@@ -211,7 +211,7 @@ fn offset<'a>(
 #[tactic(auto, unfolding(crate::specs::Read::primary), using(c_syntax::proofs::Equations::term_laws))]
 fn primary<'a>(
     alloc: Global,
-    types: &[Str],
+    types: &TypeNames,
     place: Place,
     room: u32,
     tokens: &'a [Token],
@@ -247,7 +247,7 @@ fn primary<'a>(
 #[tactic(auto, using(c_syntax::proofs::Equations::term_laws))]
 fn named<'a>(
     alloc: Global,
-    types: &[Str],
+    types: &TypeNames,
     place: Place,
     room: u32,
     name: &Str,
@@ -272,7 +272,7 @@ fn named<'a>(
 #[tactic(auto, using(crate::proofs::Reading::args_none, crate::proofs::Reading::args_some))]
 fn args<'a>(
     alloc: Global,
-    types: &[Str],
+    types: &TypeNames,
     place: Place,
     room: u32,
     tokens: &'a [Token],
@@ -295,7 +295,7 @@ fn args<'a>(
 #[tactic(auto, using(c_syntax::proofs::Equations::term_laws))]
 fn worded<'a>(
     alloc: Global,
-    types: &[Str],
+    types: &TypeNames,
     place: Place,
     room: u32,
     word: Word,
@@ -329,7 +329,7 @@ fn worded<'a>(
 #[cycle(terms)]
 fn old<'a>(
     alloc: Global,
-    types: &[Str],
+    types: &TypeNames,
     place: Place,
     room: u32,
     line: Line,
@@ -348,7 +348,7 @@ fn old<'a>(
 #[cycle(terms)]
 fn at_label<'a>(
     alloc: Global,
-    types: &[Str],
+    types: &TypeNames,
     place: Place,
     room: u32,
     line: Line,

@@ -7,14 +7,19 @@ ghost use Rattle.parse_terms.specs.Read as spec;
 use crate::entries::is_entry;
 use crate::place::Place;
 use crate::wholes::{binary, spread_term, term, terms};
-use c_grammar::{Fault, Read, SHIFTS};
+use c_grammar::{Fault, Read, SHIFTS, TypeNames};
 use c_syntax::{Term, Token};
 use std::alloc::Global;
-use wp_base::{List, Str};
+use wp_base::List;
 
 /// A term, in which so many more forms may open, and the tokens after it.
 #[tactic(auto, unfolding(crate::specs::Read::term_at))]
-pub fn term_at<'a>(alloc: Global, types: &[Str], room: u32, tokens: &'a [Token]) -> Read<'a, Term>
+pub fn term_at<'a>(
+    alloc: Global,
+    types: &TypeNames,
+    room: u32,
+    tokens: &'a [Token],
+) -> Read<'a, Term>
     ensures { Gives view_term result (spec.term_at types.now room tokens.now) }
 {
     term(alloc, types, Place::Anywhere, room, tokens)
@@ -24,7 +29,7 @@ pub fn term_at<'a>(alloc: Global, types: &[Str], room: u32, tokens: &'a [Token])
 #[tactic(auto, unfolding(crate::specs::Read::chain_term_at))]
 pub fn chain_term_at<'a>(
     alloc: Global,
-    types: &[Str],
+    types: &TypeNames,
     room: u32,
     tokens: &'a [Token],
 ) -> Read<'a, Term>
@@ -37,7 +42,7 @@ pub fn chain_term_at<'a>(
 #[tactic(auto, unfolding(crate::specs::Read::some_terms_at))]
 pub fn some_terms_at<'a>(
     alloc: Global,
-    types: &[Str],
+    types: &TypeNames,
     room: u32,
     tokens: &'a [Token],
 ) -> Read<'a, List<Term>>
@@ -50,7 +55,7 @@ pub fn some_terms_at<'a>(
 #[tactic(auto, unfolding(crate::specs::Read::pointer_at))]
 pub fn pointer_at<'a>(
     alloc: Global,
-    types: &[Str],
+    types: &TypeNames,
     room: u32,
     tokens: &'a [Token],
 ) -> Read<'a, Term>
@@ -61,7 +66,12 @@ pub fn pointer_at<'a>(
 
 /// An entry of a set (ACSL 2.3.4).
 #[tactic(auto, unfolding(crate::specs::Read::entry_at))]
-pub fn entry_at<'a>(alloc: Global, types: &[Str], room: u32, tokens: &'a [Token]) -> Read<'a, Term>
+pub fn entry_at<'a>(
+    alloc: Global,
+    types: &TypeNames,
+    room: u32,
+    tokens: &'a [Token],
+) -> Read<'a, Term>
     ensures { Gives view_term result (spec.entry_at types.now room tokens.now) }
 {
     let (entry, rest) = term(alloc, types, Place::InSet, room, tokens)?;

@@ -7,10 +7,10 @@ ghost use Rattle.parse_terms.specs.Views.{view_place};
 
 use crate::past::past_at;
 use crate::place::Place;
-use c_grammar::{binop_of, level_of, punct_at, unop_of};
+use c_grammar::{TypeNames, binop_of, level_of, punct_at, unop_of};
 use c_syntax::{BinOp, Punct, Token, TokenKind, UnOp};
 use parse_types::starts_type;
-use wp_base::{Line, Str};
+use wp_base::Line;
 
 /// What selects a part of a term (C11 6.5.2).
 #[derive(Clone, Copy)]
@@ -96,7 +96,7 @@ pub fn prefix_at(place: Place, tokens: &[Token]) -> Option<((UnOp, Line), &[Toke
 
 /// A parenthesis with a type behind it, with its line, if it comes first.
 #[tactic(auto, unfolding(crate::specs::Read::cast_at))]
-pub fn cast_at<'a>(types: &[Str], tokens: &'a [Token]) -> Option<(Line, &'a [Token])>
+pub fn cast_at<'a>(types: &TypeNames, tokens: &'a [Token]) -> Option<(Line, &'a [Token])>
     ensures { Finds (λ x. x) result (spec.cast_at types.now tokens.now) }
 {
     let (first, rest) = tokens.split_first()?;

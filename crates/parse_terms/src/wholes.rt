@@ -12,17 +12,17 @@ use crate::nodes;
 use crate::operands::operand;
 use crate::place::Place;
 use crate::tokens::operator;
-use c_grammar::{Fault, LOOSEST, Read, expect, punct_at};
+use c_grammar::{Fault, LOOSEST, Read, TypeNames, expect, punct_at};
 use c_syntax::{BinOp, Punct, Term, Token};
 use std::alloc::Global;
-use wp_base::{Line, List, Str};
+use wp_base::{Line, List};
 
 /// A term in a form that opens here.
 #[cycle(terms)]
 #[tactic(auto, using(crate::proofs::Reading::inner_none, crate::proofs::Reading::inner_some))]
 pub(crate) fn inner_term<'a>(
     alloc: Global,
-    types: &[Str],
+    types: &TypeNames,
     place: Place,
     room: u32,
     tokens: &'a [Token],
@@ -39,7 +39,7 @@ pub(crate) fn inner_term<'a>(
 #[cycle(terms)]
 pub(crate) fn spread_term<'a>(
     alloc: Global,
-    types: &[Str],
+    types: &TypeNames,
     place: Place,
     room: u32,
     tokens: &'a [Token],
@@ -57,7 +57,7 @@ pub(crate) fn spread_term<'a>(
 #[cycle(terms)]
 fn spread<'a>(
     alloc: Global,
-    types: &[Str],
+    types: &TypeNames,
     place: Place,
     room: u32,
     base: Term,
@@ -75,7 +75,7 @@ fn spread<'a>(
 #[cycle(terms)]
 fn bounds<'a>(
     alloc: Global,
-    types: &[Str],
+    types: &TypeNames,
     place: Place,
     room: u32,
     tokens: &'a [Token],
@@ -96,7 +96,7 @@ fn bounds<'a>(
 #[tactic(auto, using(crate::proofs::Reading::term_is))]
 pub(crate) fn term<'a>(
     alloc: Global,
-    types: &[Str],
+    types: &TypeNames,
     place: Place,
     room: u32,
     tokens: &'a [Token],
@@ -114,7 +114,7 @@ pub(crate) fn term<'a>(
 #[cycle(terms)]
 fn choice<'a>(
     alloc: Global,
-    types: &[Str],
+    types: &TypeNames,
     place: Place,
     room: u32,
     test: Term,
@@ -135,7 +135,7 @@ fn choice<'a>(
 #[tactic(auto, using(c_grammar::proofs::Chains::levels_zero, c_grammar::proofs::Chains::levels_more))]
 pub(crate) fn binary<'a>(
     alloc: Global,
-    types: &[Str],
+    types: &TypeNames,
     place: Place,
     room: u32,
     level: u32,
@@ -156,7 +156,7 @@ pub(crate) fn binary<'a>(
 #[tactic(auto, using(c_grammar::proofs::Chains::chain_ends, c_grammar::proofs::Chains::chain_stops))]
 fn operators<'a>(
     alloc: Global,
-    types: &[Str],
+    types: &TypeNames,
     place: Place,
     room: u32,
     level: u32,
@@ -184,7 +184,7 @@ fn operators<'a>(
 #[cycle(terms)]
 pub(crate) fn terms<'a>(
     alloc: Global,
-    types: &[Str],
+    types: &TypeNames,
     place: Place,
     room: u32,
     tokens: &'a [Token],
@@ -201,7 +201,7 @@ pub(crate) fn terms<'a>(
 #[cycle(terms)]
 fn more_terms<'a>(
     alloc: Global,
-    types: &[Str],
+    types: &TypeNames,
     place: Place,
     room: u32,
     first: List<Term>,

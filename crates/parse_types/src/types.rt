@@ -7,10 +7,10 @@ ghost use Rattle.c_grammar.specs.Views.{Gives};
 ghost use Rattle.parse_types.specs.Read as spec;
 
 use crate::kinds::{is_kind_word, kind_at};
-use c_grammar::{Fault, Read, is_type, name_at, punct_at};
+use c_grammar::{Fault, Read, TypeNames, is_type, name_at, punct_at};
 use c_syntax::{CType, Punct, Token, TokenKind, Word};
 use std::alloc::Global;
-use wp_base::{Boxed, NoMemory, Str};
+use wp_base::{Boxed, NoMemory};
 
 fn word_starts(word: Word) -> bool
     ensures { result ≡ spec.word_starts word }
@@ -26,7 +26,7 @@ fn word_starts(word: Word) -> bool
 
 /// Whether the first token begins a type.
 #[tactic(auto, unfolding(crate::specs::Read::starts_type))]
-pub fn starts_type(types: &[Str], tokens: &[Token]) -> bool
+pub fn starts_type(types: &TypeNames, tokens: &[Token]) -> bool
     ensures { result ≡ spec.starts_type types.now tokens.now }
 {
     let Some((first, _)) = tokens.split_first() else {
@@ -45,8 +45,8 @@ fn is_const(kind: &TokenKind) -> bool
     matches!(kind, TokenKind::Word(Word::Const))
 }
 
-// Each `const` at the front, and whether there is one.
-fn consts_at(tokens: &[Token]) -> (bool, &[Token])
+/// Whether there is a `const` at the front, and the tokens behind each of them.
+pub fn consts_at(tokens: &[Token]) -> (bool, &[Token])
     ensures found { result.0 ≡ (spec.consts_at tokens.now).0 }
     ensures rest { result.1.now ≡ (spec.consts_at tokens.now).1 }
 {
@@ -117,7 +117,7 @@ fn worded<'a>(alloc: Global, word: Word, tokens: &'a [Token], after: &'a [Token]
 
 // A type without `const`.
 #[tactic(auto, using(crate::proofs::Reading::views), unfolding(crate::specs::Read::specifier_at))]
-fn specifier_at<'a>(alloc: Global, types: &[Str], tokens: &'a [Token]) -> Read<'a, CType>
+fn specifier_at<'a>(alloc: Global, types: &TypeNames, tokens: &'a [Token]) -> Read<'a, CType>
     ensures { Gives view_ctype result (spec.specifier_at types.now tokens.now) }
 {
     let Some((first, after)) = tokens.split_first() else {
@@ -134,7 +134,7 @@ fn specifier_at<'a>(alloc: Global, types: &[Str], tokens: &'a [Token]) -> Read<'
 
 /// A type with its `const`, and the tokens after it.
 #[tactic(auto, unfolding(crate::specs::Read::type_at))]
-pub fn type_at<'a>(alloc: Global, types: &[Str], tokens: &'a [Token]) -> Read<'a, CType>
+pub fn type_at<'a>(alloc: Global, types: &TypeNames, tokens: &'a [Token]) -> Read<'a, CType>
     ensures { Gives view_ctype result (spec.type_at types.now tokens.now) }
 {
     let (before, rest) = consts_at(tokens);
@@ -168,7 +168,7 @@ pub fn stars_at<'a>(
 
 /// The name of a type: a type and pointers to it.
 #[tactic(auto, unfolding(crate::specs::Read::type_name_at))]
-pub fn type_name_at<'a>(alloc: Global, types: &[Str], tokens: &'a [Token]) -> Read<'a, CType>
+pub fn type_name_at<'a>(alloc: Global, types: &TypeNames, tokens: &'a [Token]) -> Read<'a, CType>
     ensures { Gives view_ctype result (spec.type_name_at types.now tokens.now) }
 {
     let (ty, rest) = type_at(alloc, types, tokens)?;

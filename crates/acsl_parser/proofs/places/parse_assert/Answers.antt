@@ -18,7 +18,7 @@ pub returns-clause-spelled : goal.returns-clause-spelled
 returns-clause-spelled c =
     let tokens = c.args.tokens.now in
     let rest = rest_here c.args.at tokens (omega (arith, c.requires.place)) in
-    let reads = rw (c.as_slice-all.ensures, c.as_slice.ensures, rest) at c.assert_at-found.ensures in
+    let reads = rw (c.as_slice-all.ensures, rest) at c.assert_at-found.ensures in
     let spelled = spelled_here (SpellsAssertOn c.args.types.now (DEEPEST - c.args.depth)) view_assert (assert_at c.args.types.now (DEEPEST - c.args.depth)) (drop c.args.at tokens) (λ y rest h. assert_sound c.args.types.now (DEEPEST - c.args.depth) (drop c.args.at tokens) y rest h) c.assert_at-found.result reads in
     let alone = spelled_alone (SpellsAssert c.args.types.now (DEEPEST - c.args.depth)) view_pred (drop c.args.at tokens) c.assert_at-found.result spelled in
     rw (c.placed.ensures, c.as_slice-all.ensures, c.without_line.ensures)
@@ -28,7 +28,7 @@ pub returns-clause-only : goal.returns-clause-only
 returns-clause-only c part next s =
     let tokens = c.args.tokens.now in
     let rest = rest_here c.args.at tokens (omega (arith, c.requires.place)) in
-    let reads = rw (c.as_slice-all.ensures, c.as_slice.ensures, rest) at c.assert_at-found.ensures in
+    let reads = rw (c.as_slice-all.ensures, rest) at c.assert_at-found.ensures in
     let only = only_here (SpellsAssertOn c.args.types.now (DEEPEST - c.args.depth)) (λ (ts : List Token). Unit {0}) view_assert (assert_at c.args.types.now (DEEPEST - c.args.depth)) (drop c.args.at tokens) (assert_only c.args.types.now (DEEPEST - c.args.depth) (drop c.args.at tokens)) c.assert_at-found.result reads in
     let alone = only_alone (SpellsAssert c.args.types.now (DEEPEST - c.args.depth)) (λ (ts : List Token). Unit {0}) view_pred (drop c.args.at tokens) c.assert_at-found.result only in
     rw (c.placed.ensures, c.as_slice-all.ensures, c.without_line.ensures)

@@ -16,7 +16,7 @@ returns-clause-spelled c =
     let tokens = c.args.tokens.now in
     let rest = rest_here c.args.at tokens (omega (arith, c.requires)) in
     let here = place_here c.args.at tokens (omega (arith, c.requires)) in
-    let reads = rw (c.as_slice-all.ensures, c.as_slice.ensures, rest) at c.contract_at-found.ensures in
+    let reads = rw (c.as_slice-all.ensures, rest) at c.contract_at-found.ensures in
     let spelled = rw here at (spelled_here (SpellsContract c.args.types.now (length tokens - length (drop c.args.at tokens))) view_contract (contract_at c.args.types.now (length tokens)) (drop c.args.at tokens) (λ y rest h. contract_sound c.args.types.now (length tokens) (drop c.args.at tokens) y rest (rest_shorter c.args.at tokens) h) c.contract_at-found.result reads) in
     rw (c.placed.ensures, c.as_slice-all.ensures)
     (stands (SpellsContract c.args.types.now c.args.at) view_contract true tokens c.args.at _ c.contract_at-found.result (omega (arith, c.requires)) spelled)
@@ -26,7 +26,7 @@ returns-clause-only c part next s =
     let tokens = c.args.tokens.now in
     let rest = rest_here c.args.at tokens (omega (arith, c.requires)) in
     let here = place_here c.args.at tokens (omega (arith, c.requires)) in
-    let reads = rw (c.as_slice-all.ensures, c.as_slice.ensures, rest) at c.contract_at-found.ensures in
+    let reads = rw (c.as_slice-all.ensures, rest) at c.contract_at-found.ensures in
     let only = rw here at (only_here (SpellsContract c.args.types.now (length tokens - length (drop c.args.at tokens))) IsClosed view_contract (contract_at c.args.types.now (length tokens)) (drop c.args.at tokens) (contract_only c.args.types.now (length tokens) (drop c.args.at tokens) (rest_shorter c.args.at tokens)) c.contract_at-found.result reads) in
     rw (c.placed.ensures, c.as_slice-all.ensures)
     (only_there (SpellsContract c.args.types.now c.args.at) IsClosed view_contract true tokens c.args.at _ c.contract_at-found.result (λ ts closed. closed) only part next s)

@@ -15,7 +15,7 @@ pub returns-clause-spelled : goal.returns-clause-spelled
 returns-clause-spelled c =
     let tokens = c.args.tokens.now in
     let rest = rest_here c.args.at tokens (omega (arith, c.requires)) in
-    let reads = rw (c.as_slice-all.ensures, c.as_slice.ensures, rest) at c.logic_at-found.ensures in
+    let reads = rw (c.as_slice-all.ensures, rest) at c.logic_at-found.ensures in
     let spelled = spelled_here (SpellsLogic c.args.types.now) view_logic (logic_at c.args.types.now) (drop c.args.at tokens) (λ y rest h. logic_sound c.args.types.now (drop c.args.at tokens) y rest h) c.logic_at-found.result reads in
     rw (c.placed.ensures, c.as_slice-all.ensures)
     (stands (SpellsLogic c.args.types.now) view_logic false tokens c.args.at _ c.logic_at-found.result (omega (arith, c.requires)) spelled)
@@ -24,7 +24,7 @@ pub returns-clause-only : goal.returns-clause-only
 returns-clause-only c part next s =
     let tokens = c.args.tokens.now in
     let rest = rest_here c.args.at tokens (omega (arith, c.requires)) in
-    let reads = rw (c.as_slice-all.ensures, c.as_slice.ensures, rest) at c.logic_at-found.ensures in
+    let reads = rw (c.as_slice-all.ensures, rest) at c.logic_at-found.ensures in
     let only = only_here (SpellsLogic c.args.types.now) (λ (ts : List Token). Unit {0}) view_logic (logic_at c.args.types.now) (drop c.args.at tokens) (logic_only c.args.types.now (drop c.args.at tokens)) c.logic_at-found.result reads in
     rw (c.placed.ensures, c.as_slice-all.ensures)
     (only_there (SpellsLogic c.args.types.now) (λ (ts : List Token). Unit {0}) view_logic false tokens c.args.at _ c.logic_at-found.result (λ ts any. any) only part next s)

@@ -17,7 +17,7 @@ returns-clause-spelled c =
     let tokens = c.args.tokens.now in
     let rest = rest_here c.args.at tokens (omega (arith, c.requires.place)) in
     let here = place_here c.args.at tokens (omega (arith, c.requires.place)) in
-    let reads = rw (c.as_slice-all.ensures, c.as_slice.ensures, rest) at c.loop_at-found.ensures in
+    let reads = rw (c.as_slice-all.ensures, rest) at c.loop_at-found.ensures in
     let spelled = rw here at (spelled_here (SpellsLoop c.args.types.now (DEEPEST - c.args.depth) (length tokens - length (drop c.args.at tokens))) view_loop (loop_at c.args.types.now (DEEPEST - c.args.depth) (length tokens)) (drop c.args.at tokens) (λ y rest h. loop_sound c.args.types.now (DEEPEST - c.args.depth) (length tokens) (drop c.args.at tokens) y rest (rest_shorter c.args.at tokens) h) c.loop_at-found.result reads) in
     rw (c.placed.ensures, c.as_slice-all.ensures)
     (stands (SpellsLoop c.args.types.now (DEEPEST - c.args.depth) c.args.at) view_loop true tokens c.args.at _ c.loop_at-found.result (omega (arith, c.requires.place)) spelled)
@@ -27,7 +27,7 @@ returns-clause-only c part next s =
     let tokens = c.args.tokens.now in
     let rest = rest_here c.args.at tokens (omega (arith, c.requires.place)) in
     let here = place_here c.args.at tokens (omega (arith, c.requires.place)) in
-    let reads = rw (c.as_slice-all.ensures, c.as_slice.ensures, rest) at c.loop_at-found.ensures in
+    let reads = rw (c.as_slice-all.ensures, rest) at c.loop_at-found.ensures in
     let only = rw here at (only_here (SpellsLoop c.args.types.now (DEEPEST - c.args.depth) (length tokens - length (drop c.args.at tokens))) IsClosed view_loop (loop_at c.args.types.now (DEEPEST - c.args.depth) (length tokens)) (drop c.args.at tokens) (loop_only c.args.types.now (DEEPEST - c.args.depth) (length tokens) (drop c.args.at tokens) (rest_shorter c.args.at tokens)) c.loop_at-found.result reads) in
     rw (c.placed.ensures, c.as_slice-all.ensures)
     (only_there (SpellsLoop c.args.types.now (DEEPEST - c.args.depth) c.args.at) IsClosed view_loop true tokens c.args.at _ c.loop_at-found.result (λ ts closed. closed) only part next s)

@@ -22,11 +22,11 @@ use wp_base::{List, NoMemory, Stop};
 
 /// What the functions of a file have left so far. Where memory is lacking, or at a fault, this may only be dropped.
 #[derive(Drop)]
-pub struct Functions {
+pub struct Functions<'a> {
     /// In the order of the text.
-    pub bodies: List<Body>,
+    pub bodies: List<Body<'a>>,
     /// The declarations with annotations, in the order of the text.
-    pub parts: List<Part>,
+    pub parts: List<Part<'a>>,
 }
 
 fn declared_number(context: &Context, function: &Function) -> u32
@@ -48,11 +48,11 @@ fn leave(alloc: Global, context: &mut Context) -> (List<Object>, List<bool>)
 
 // The body of the function with this number, where it has one.
 #[tactic(auto, using(c_answers::proofs::After::after_laws))]
-fn with_stmt(
+fn with_stmt<'a>(
     alloc: Global,
     context: &mut Context,
-    bodies: &mut List<Body>,
-    function: &Function,
+    bodies: &mut List<Body<'a>>,
+    function: &'a Function,
     number: u32,
 ) -> Result<(), Stop>
     requires { number ≡ spec.declared_number context.now (view_function function.now) }
@@ -79,35 +79,34 @@ fn with_stmt(
 }
 
 // The declaration with its contract, whose parameters are in scope; so many names and tags are declared before it.
-fn part_of(
+fn part_of<'a>(
     alloc: Global,
     context: &Context,
     names: u32,
     tags: u32,
-    function: &Function,
-) -> Result<Part, NoMemory>
+    function: &'a Function,
+) -> Result<Part<'a>, NoMemory>
     ensures { IfOk result (λ part. view_part part ≡ spec.part_at names tags context.now (view_function function.now)) }
 {
     let number = declared_number(context, function);
     let params = copies(alloc, &context.scope.local.objects)?;
-    let contract = function.contract.copy(alloc)?;
     Ok(Part {
         names,
         tags,
-        decl: Annotated::Function(number, params, contract),
+        decl: Annotated::Function(number, params, &function.contract),
     })
 }
 
 // The body, and then the declaration among those with annotations.
 #[tactic(auto, using(c_answers::proofs::After::after_laws, crate::proofs::Parts::more_part), unfolding(crate::specs::Functions::finished))]
-fn finished(
+fn finished<'a>(
     alloc: Global,
     context: &mut Context,
-    so_far: &mut Functions,
-    part: Part,
-    function: &Function,
+    so_far: &mut Functions<'a>,
+    part: Part<'a>,
+    function: &'a Function,
 ) -> Result<(), Stop>
-    ensures { Gives (λ _. (context.new, view_functions so_far.new)) result (spec.finished context.old (view_functions so_far.old) (view_part part) (view_function function.now)) }
+    ensures { Gives (λ _. (context.new, view_functions so_far.new)) result (spec.finished context.old (view_functions so_far.old) (view_part part.entry) (view_function function.now)) }
 {
     let number = declared_number(context, function);
     with_stmt(alloc, context, &mut so_far.bodies, function, number)?;
@@ -118,13 +117,13 @@ fn finished(
 /// Declares a function, with its body where it has one, or gives its first fault. `bodied` has the names of the functions that have a body
 /// somewhere in the file; `taken` tells of the function's parameters and locals whose address is taken.
 #[tactic(auto, using(c_answers::proofs::After::after_laws), unfolding(crate::specs::Functions::function))]
-pub fn declare_function(
+pub fn declare_function<'a>(
     alloc: Global,
     context: &mut Context,
-    so_far: &mut Functions,
+    so_far: &mut Functions<'a>,
     bodied: &Table<bool>,
     taken: List<bool>,
-    function: &Function,
+    function: &'a Function,
 ) -> Result<(), Stop>
     ensures { Gives (λ _. (context.new, view_functions so_far.new)) result (spec.function context.old (view_functions so_far.old) bodied.now taken (view_function function.now)) }
 {

@@ -33,7 +33,7 @@ pub(crate) fn number_of(file: &File, name: &Str) -> Option<u32>
 }
 
 // Whether one of these bodies is that of the function with this number.
-fn has_body_of(bodies: &[Body], number: u32) -> bool
+fn has_body_of(bodies: &[Body<'_>], number: u32) -> bool
     ensures { result ≡ spec.is_defined (map view_body bodies.now) (Some number) }
 {
     for body in bodies {
@@ -44,7 +44,7 @@ fn has_body_of(bodies: &[Body], number: u32) -> bool
     false
 }
 
-fn is_defined(bodies: &List<Body>, number: Option<u32>) -> bool
+fn is_defined(bodies: &List<Body<'_>>, number: Option<u32>) -> bool
     ensures { result ≡ spec.is_defined (map view_body bodies.now) number }
 {
     match number {
@@ -53,7 +53,7 @@ fn is_defined(bodies: &List<Body>, number: Option<u32>) -> bool
     }
 }
 
-fn is_open(file: &File, bodies: &List<Body>, has_body: bool, name: &Str) -> bool
+fn is_open(file: &File, bodies: &List<Body<'_>>, has_body: bool, name: &Str) -> bool
     ensures { result ≡ spec.is_open file.now (map view_body bodies.now) has_body name.now }
 {
     let number = number_of(file, name);
@@ -194,7 +194,7 @@ pub(crate) fn header(
     alloc: Global,
     context: &mut Context,
     bodied: &Table<bool>,
-    bodies: &List<Body>,
+    bodies: &List<Body<'_>>,
     taken: List<bool>,
     function: &Function,
 ) -> Result<(), Stop>

@@ -80,12 +80,30 @@ item k zs c x other = after other (λ r. Ok (item_with r.0 zs r.1))
 
 -- ---- statements
 
--- what comes first in a `for`, in a block with the loop
-abbrev pub in_for : (line : ℕ) → LoopAnnot → s.Stmt → s.Turns → s.Stmt → s.Stmt
-in_for line annot first turns body = s.block line (s.more first (s.more (s.loop_of line annot turns body) s.stop))
-
+-- what a loop evaluates beside its body
 abbrev pub turns_with : (before behind step : Option t.Value) → s.Turns
 turns_with before behind step = record { before = before; behind = behind; step = step }
+
+-- that of `while`, of `do` and of `for`
+abbrev pub turns_before : Context → e.Expr → Answer s.Turns
+turns_before c test = after (test_of c test) (λ v. Ok (turns_with (Some v) None None))
+
+abbrev pub turns_behind : Context → e.Expr → Answer s.Turns
+turns_behind c test = after (test_of c test) (λ v. Ok (turns_with None (Some v) None))
+
+abbrev pub turns_of : Context → (test next : Option e.Expr) → Answer s.Turns
+turns_of c test next = after (test_if c test) (λ v. after (step_if c next) (λ w. Ok (turns_with v None w)))
+
+-- what comes first in a `for`, in a block with the loop
+abbrev pub in_for : (line : ℕ) → s.Stmt → (again : s.Stmt) → s.Stmt
+in_for line first again = s.block line (s.more first (s.more again s.stop))
+
+-- a loop over what this gives, and what comes first in a `for`, in a block with its loop
+abbrev pub loop_by : (line : ℕ) → LoopAnnot → s.Turns → Answer (s.Stmt × Context) → Answer (s.Stmt × Context)
+loop_by line annot t body = after body (λ r. Ok (s.loop_of line annot t r.0, r.1))
+
+abbrev pub for_by : (line : ℕ) → s.Stmt → Answer (s.Stmt × Context) → Answer (s.Stmt × Context)
+for_by line first again = after again (λ r. Ok (in_for line first r.0, left r.1))
 
 abbrev mutual
   pub stmt : Context → p.Stmt → Answer (s.Stmt × Context)
@@ -96,13 +114,12 @@ abbrev mutual
   stmt c (p.if_only line test a) = after (test_of c test) (λ v. after (stmt c a) (λ r. Ok (s.if_else line v r.0 (s.empty line), r.1)))
   stmt c (p.if_else line test a b) = after (test_of c test) (λ v. after (stmt c a) (λ r. after (stmt r.1 b) (λ q. Ok (s.if_else line v r.0 q.0, q.1))))
   stmt c (p.while_of line annot test body) =
-      after (test_of c test) (λ v. after (stmt c body) (λ r. Ok (s.loop_of line annot (turns_with (Some v) None None) r.0, r.1)))
+      after (turns_before c test) (λ t. loop_by line annot t (stmt c body))
   stmt c (p.do_of line annot body test) =
-      after (stmt c body) (λ r. after (test_of r.1 test) (λ v. Ok (s.loop_of line annot (turns_with None (Some v) None) r.0, r.1)))
+      after (stmt c body) (λ r. after (turns_behind r.1 test) (λ t. Ok (s.loop_of line annot t r.0, r.1)))
   -- the declaration before a loop is in scope in the loop alone (6.8.5.3p1)
   stmt c (p.for_of line annot first test next body) =
-      after (stmt (entered c) first) (λ r. after (test_if r.1 test) (λ v. after (step_if r.1 next) (λ w. after (stmt r.1 body) (λ q.
-      Ok (in_for line annot r.0 (turns_with v None w) q.0, left q.1)))))
+      after (stmt (entered c) first) (λ r. for_by line r.0 (after (turns_of r.1 test next) (λ t. loop_by line annot t (stmt r.1 body))))
   stmt c (p.switch line a body) =
       after (switched_value c a) (λ v. after (labelled (kind_of_value v) [] (entered c) body) (λ r. Ok (s.switch line v r.0, left r.1)))
   -- labels stand in the body of a `switch` alone (6.8.1p2)

@@ -2,6 +2,7 @@
 #![tactic(auto)]
 
 mod cases;
+mod joined;
 mod locals;
 mod makers;
 mod stmts;

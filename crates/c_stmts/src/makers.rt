@@ -1,7 +1,6 @@
 // Typed statements from their parts (C11 6.8).
 ghost use Rattle.std.specs.Prelude.{◌≡◌, IfOk, map};
 ghost use Rattle.std.specs.Option.{option_map};
-ghost use Rattle.c_stmts.specs.Statements as spec;
 ghost use Rattle.c_syntax.specs.View.{view_loop, view_pred};
 ghost use Rattle.typed_prog.specs.View.{view_value};
 ghost use Rattle.typed_unit.specs.Stmt as s;
@@ -14,7 +13,7 @@ use typed_unit::{Declared, Stmt, StmtNode, Turns};
 use wp_base::{Boxed, Line, List, NoMemory};
 
 #[tactic(auto, using(typed_unit::proofs::Equations::stmt_laws))]
-pub(crate) fn empty(line: Line) -> Stmt
+pub(crate) fn empty<'a>(line: Line) -> Stmt<'a>
     ensures { view_stmt result ≡ s.empty line }
 {
     Stmt {
@@ -24,7 +23,7 @@ pub(crate) fn empty(line: Line) -> Stmt
 }
 
 #[tactic(auto, using(typed_unit::proofs::Equations::stmt_laws))]
-pub(crate) fn of_value(line: Line, value: Value) -> Stmt
+pub(crate) fn of_value<'a>(line: Line, value: Value) -> Stmt<'a>
     ensures { view_stmt result ≡ s.expr line (view_value value) }
 {
     Stmt {
@@ -34,8 +33,8 @@ pub(crate) fn of_value(line: Line, value: Value) -> Stmt
 }
 
 #[tactic(auto, using(typed_unit::proofs::Equations::stmt_laws))]
-pub(crate) fn block(line: Line, body: List<Stmt>) -> Stmt
-    ensures { view_stmt result ≡ s.block line (view_stmts body) }
+pub(crate) fn block<'a>(line: Line, body: List<Stmt<'a>>) -> Stmt<'a>
+    ensures { view_stmt result ≡ s.block line (view_stmts body.entry) }
 {
     Stmt {
         node: StmtNode::Block(body),
@@ -44,7 +43,7 @@ pub(crate) fn block(line: Line, body: List<Stmt>) -> Stmt
 }
 
 #[tactic(auto, using(typed_unit::proofs::Equations::stmt_laws))]
-pub(crate) fn of_locals(line: Line, vars: List<Declared>) -> Stmt
+pub(crate) fn of_locals<'a>(line: Line, vars: List<Declared>) -> Stmt<'a>
     ensures { view_stmt result ≡ s.locals line (map view_declared vars) }
 {
     Stmt {
@@ -54,14 +53,14 @@ pub(crate) fn of_locals(line: Line, vars: List<Declared>) -> Stmt
 }
 
 #[tactic(auto, using(typed_unit::proofs::Equations::stmt_laws))]
-pub(crate) fn choice(
+pub(crate) fn choice<'a>(
     alloc: Global,
     line: Line,
     test: Value,
-    first: Stmt,
-    other: Stmt,
-) -> Result<Stmt, NoMemory>
-    ensures { IfOk result (λ x. view_stmt x ≡ s.if_else line (view_value test) (view_stmt first) (view_stmt other)) }
+    first: Stmt<'a>,
+    other: Stmt<'a>,
+) -> Result<Stmt<'a>, NoMemory>
+    ensures { IfOk result (λ x. view_stmt x ≡ s.if_else line (view_value test) (view_stmt first.entry) (view_stmt other.entry)) }
 {
     let first = Boxed::new(alloc, first)?;
     let other = Boxed::new(alloc, other)?;
@@ -72,16 +71,15 @@ pub(crate) fn choice(
 }
 
 #[tactic(auto, using(typed_unit::proofs::Equations::stmt_laws))]
-pub(crate) fn loop_over(
+pub(crate) fn loop_over<'a>(
     alloc: Global,
     line: Line,
-    annot: &LoopAnnot,
+    annot: &'a LoopAnnot,
     turns: Turns,
-    body: Stmt,
-) -> Result<Stmt, NoMemory>
-    ensures { IfOk result (λ x. view_stmt x ≡ s.loop_of line (view_loop annot.now) (view_turns turns) (view_stmt body)) }
+    body: Stmt<'a>,
+) -> Result<Stmt<'a>, NoMemory>
+    ensures { IfOk result (λ x. view_stmt x ≡ s.loop_of line (view_loop annot.now) (view_turns turns) (view_stmt body.entry)) }
 {
-    let annot = annot.copy(alloc)?;
     let body = Boxed::new(alloc, body)?;
     Ok(Stmt {
         node: StmtNode::Loop(annot, turns, body),
@@ -89,27 +87,24 @@ pub(crate) fn loop_over(
     })
 }
 
-/// What comes first in a `for`, in a block with the loop.
-pub(crate) fn in_for(
+/// Two statements in a block.
+pub(crate) fn pair<'a>(
     alloc: Global,
     line: Line,
-    annot: &LoopAnnot,
-    first: Stmt,
-    turns: Turns,
-    body: Stmt,
-) -> Result<Stmt, NoMemory>
-    ensures { IfOk result (λ x. view_stmt x ≡ spec.in_for line (view_loop annot.now) (view_stmt first) (view_turns turns) (view_stmt body)) }
+    first: Stmt<'a>,
+    second: Stmt<'a>,
+) -> Result<Stmt<'a>, NoMemory>
+    ensures { IfOk result (λ x. view_stmt x ≡ s.block line (s.more (view_stmt first.entry) (s.more (view_stmt second.entry) s.stop))) }
 {
-    let again = loop_over(alloc, line, annot, turns, body)?;
     let mut both = List::new(alloc);
     both.push(first)?;
-    both.push(again)?;
+    both.push(second)?;
     Ok(block(line, both))
 }
 
 #[tactic(auto, using(typed_unit::proofs::Equations::stmt_laws))]
-pub(crate) fn switch_over(line: Line, value: Value, body: List<Stmt>) -> Stmt
-    ensures { view_stmt result ≡ s.switch line (view_value value) (view_stmts body) }
+pub(crate) fn switch_over<'a>(line: Line, value: Value, body: List<Stmt<'a>>) -> Stmt<'a>
+    ensures { view_stmt result ≡ s.switch line (view_value value) (view_stmts body.entry) }
 {
     Stmt {
         node: StmtNode::Switch(value, body),
@@ -118,7 +113,7 @@ pub(crate) fn switch_over(line: Line, value: Value, body: List<Stmt>) -> Stmt
 }
 
 #[tactic(auto, using(typed_unit::proofs::Equations::stmt_laws))]
-pub(crate) fn case(line: Line, number: i128) -> Stmt
+pub(crate) fn case<'a>(line: Line, number: i128) -> Stmt<'a>
     ensures { view_stmt result ≡ s.case_of line number }
 {
     Stmt {
@@ -128,7 +123,7 @@ pub(crate) fn case(line: Line, number: i128) -> Stmt
 }
 
 #[tactic(auto, using(typed_unit::proofs::Equations::stmt_laws))]
-pub(crate) fn default_label(line: Line) -> Stmt
+pub(crate) fn default_label<'a>(line: Line) -> Stmt<'a>
     ensures { view_stmt result ≡ s.default line }
 {
     Stmt {
@@ -138,7 +133,7 @@ pub(crate) fn default_label(line: Line) -> Stmt
 }
 
 #[tactic(auto, using(typed_unit::proofs::Equations::stmt_laws))]
-pub(crate) fn leave(line: Line) -> Stmt
+pub(crate) fn leave<'a>(line: Line) -> Stmt<'a>
     ensures { view_stmt result ≡ s.break line }
 {
     Stmt {
@@ -148,7 +143,7 @@ pub(crate) fn leave(line: Line) -> Stmt
 }
 
 #[tactic(auto, using(typed_unit::proofs::Equations::stmt_laws))]
-pub(crate) fn go_on(line: Line) -> Stmt
+pub(crate) fn go_on<'a>(line: Line) -> Stmt<'a>
     ensures { view_stmt result ≡ s.continue line }
 {
     Stmt {
@@ -158,7 +153,7 @@ pub(crate) fn go_on(line: Line) -> Stmt
 }
 
 #[tactic(auto, using(typed_unit::proofs::Equations::stmt_laws))]
-pub(crate) fn give_back(line: Line, value: Option<Value>) -> Stmt
+pub(crate) fn give_back<'a>(line: Line, value: Option<Value>) -> Stmt<'a>
     ensures { view_stmt result ≡ s.return_of line (option_map view_value value) }
 {
     Stmt {
@@ -168,12 +163,11 @@ pub(crate) fn give_back(line: Line, value: Option<Value>) -> Stmt
 }
 
 #[tactic(auto, using(typed_unit::proofs::Equations::stmt_laws))]
-pub(crate) fn assertion(alloc: Global, line: Line, pred: &Pred) -> Result<Stmt, NoMemory>
-    ensures { IfOk result (λ x. view_stmt x ≡ s.assert line (view_pred pred.now)) }
+pub(crate) fn assertion<'a>(line: Line, pred: &'a Pred) -> Stmt<'a>
+    ensures { view_stmt result ≡ s.assert line (view_pred pred.now) }
 {
-    let pred = pred.copy(alloc)?;
-    Ok(Stmt {
+    Stmt {
         node: StmtNode::Assert(pred),
         line,
-    })
+    }
 }

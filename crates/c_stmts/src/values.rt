@@ -5,6 +5,7 @@ ghost use Rattle.c_answers.specs.Answers.{Gives};
 ghost use Rattle.c_stmts.specs.Statements as spec;
 ghost use Rattle.c_syntax.specs.View.{view_expr};
 ghost use Rattle.typed_prog.specs.View.{view_value};
+ghost use Rattle.typed_unit.specs.View.{view_turns};
 
 use c_answers::refused;
 use c_contexts::{case_number, condition, returned, statement, switched};
@@ -12,6 +13,7 @@ use c_syntax::Expr;
 use c_variables::Context;
 use std::alloc::Global;
 use typed_prog::Value;
+use typed_unit::Turns;
 use wp_base::{Kind, Line, Rule, Stop};
 
 /// A condition.
@@ -62,13 +64,9 @@ pub(crate) fn switched_value(alloc: Global, context: &Context, expr: &Expr) -> R
     )
 }
 
-/// The condition of a `for`, which may have none.
+// The condition of a `for`, which may have none.
 #[tactic(auto, using(c_answers::proofs::After::after_laws))]
-pub(crate) fn test_if(
-    alloc: Global,
-    context: &Context,
-    expr: &Option<Expr>,
-) -> Result<Option<Value>, Stop>
+fn test_if(alloc: Global, context: &Context, expr: &Option<Expr>) -> Result<Option<Value>, Stop>
     ensures { Gives (option_map view_value) result (spec.test_if context.now (option_map view_expr expr.now)) }
 {
     match expr {
@@ -77,19 +75,58 @@ pub(crate) fn test_if(
     }
 }
 
-/// The step of a `for`, which may have none.
+// The step of a `for`, which may have none.
 #[tactic(auto, using(c_answers::proofs::After::after_laws))]
-pub(crate) fn step_if(
-    alloc: Global,
-    context: &Context,
-    expr: &Option<Expr>,
-) -> Result<Option<Value>, Stop>
+fn step_if(alloc: Global, context: &Context, expr: &Option<Expr>) -> Result<Option<Value>, Stop>
     ensures { Gives (option_map view_value) result (spec.step_if context.now (option_map view_expr expr.now)) }
 {
     match expr {
         None => Ok(None),
         Some(expr) => Ok(Some(value_of(alloc, context, expr)?)),
     }
+}
+
+/// What a `while` evaluates beside its body.
+#[tactic(auto, using(c_answers::proofs::After::after_laws))]
+pub(crate) fn turns_before(alloc: Global, context: &Context, test: &Expr) -> Result<Turns, Stop>
+    ensures { Gives view_turns result (spec.turns_before context.now (view_expr test.now)) }
+{
+    Ok(Turns {
+        before: Some(test_of(alloc, context, test)?),
+        after: None,
+        step: None,
+    })
+}
+
+/// What a `do` evaluates beside its body.
+#[tactic(auto, using(c_answers::proofs::After::after_laws))]
+pub(crate) fn turns_behind(alloc: Global, context: &Context, test: &Expr) -> Result<Turns, Stop>
+    ensures { Gives view_turns result (spec.turns_behind context.now (view_expr test.now)) }
+{
+    Ok(Turns {
+        before: None,
+        after: Some(test_of(alloc, context, test)?),
+        step: None,
+    })
+}
+
+/// What a `for` evaluates beside its body.
+#[tactic(auto, using(c_answers::proofs::After::after_laws))]
+pub(crate) fn turns_of(
+    alloc: Global,
+    context: &Context,
+    test: &Option<Expr>,
+    next: &Option<Expr>,
+) -> Result<Turns, Stop>
+    ensures { Gives view_turns result (spec.turns_of context.now (option_map view_expr test.now) (option_map view_expr next.now)) }
+{
+    let before = test_if(alloc, context, test)?;
+    let step = step_if(alloc, context, next)?;
+    Ok(Turns {
+        before,
+        after: None,
+        step,
+    })
 }
 
 /// What a `return` on this line gives back: a value exactly where the function has results.

@@ -13,7 +13,6 @@ pub use annot::{
     AssignsClause, Behavior, Clause, Contract, LoopAnnot, Measure, Names, Pred, PredNode, Term,
     TermNode,
 };
-pub use copies::{copy_terms, copy_vars};
 pub use decl::{Decl, EnumDecl, Function, LogicBody, LogicDecl, Program, StructDecl, VarDecl};
 pub use expr::{BinOp, CType, Expr, ExprNode, UnOp};
 pub use shapes::{

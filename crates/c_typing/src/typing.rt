@@ -21,13 +21,13 @@ use wp_base::{List, NoMemory, Stop};
 
 /// What stands of a file so far.
 #[derive(Drop)]
-pub(crate) struct Unit {
+pub(crate) struct Unit<'a> {
     pub context: Context,
     pub inits: List<Option<Value>>,
-    pub functions: Functions,
+    pub functions: Functions<'a>,
 }
 
-fn at_start(alloc: Global, model: Machdep) -> Unit
+fn at_start<'a>(alloc: Global, model: Machdep) -> Unit<'a>
     ensures { view_unit result ≡ spec.at_start model }
 {
     Unit {
@@ -52,18 +52,23 @@ fn at_start(alloc: Global, model: Machdep) -> Unit
 }
 
 // The definition of a predicate or of a logic function, as spelled.
-fn add_logic(alloc: Global, unit: &mut Unit, logic: &LogicDecl) -> Result<(), NoMemory>
+fn add_logic<'a>(alloc: Global, unit: &mut Unit<'a>, logic: &'a LogicDecl) -> Result<(), NoMemory>
     ensures { OnOk result (view_unit unit.new ≡ spec.with_logic (view_unit unit.old) (view_logic logic.now)) }
 {
     let names = count(unit.context.scope.file.names.len())?;
     let tags = count(unit.context.scope.file.tags.len())?;
-    let decl = Annotated::Logic(logic.copy(alloc)?);
+    let decl = Annotated::Logic(logic);
     unit.functions.parts.push(Part { names, tags, decl })?;
     Ok(())
 }
 
 #[tactic(auto, using(c_answers::proofs::After::after_laws), unfolding(crate::specs::Typing::declaration))]
-fn declaration(alloc: Global, facts: &Facts, unit: &mut Unit, decl: &Decl) -> Result<(), Stop>
+fn declaration<'a>(
+    alloc: Global,
+    facts: &Facts,
+    unit: &mut Unit<'a>,
+    decl: &'a Decl,
+) -> Result<(), Stop>
     ensures { Gives (λ _. view_unit unit.new) result (spec.declaration (view_facts facts.now) (view_unit unit.old) (view_decl decl.now)) }
 {
     match decl {
@@ -84,7 +89,12 @@ fn declaration(alloc: Global, facts: &Facts, unit: &mut Unit, decl: &Decl) -> Re
 }
 
 #[tactic(auto, using(crate::proofs::Decls::decls_laws))]
-fn declarations(alloc: Global, facts: &Facts, unit: &mut Unit, decls: &[Decl]) -> Result<(), Stop>
+fn declarations<'a>(
+    alloc: Global,
+    facts: &Facts,
+    unit: &mut Unit<'a>,
+    decls: &'a [Decl],
+) -> Result<(), Stop>
     ensures { Gives (λ _. view_unit unit.new) result (spec.declarations (view_facts facts.now) (view_unit unit.old) (map view_decl decls.now)) }
 {
     for i in 0..decls.len() {
@@ -93,8 +103,8 @@ fn declarations(alloc: Global, facts: &Facts, unit: &mut Unit, decls: &[Decl]) -
     Ok(())
 }
 
-fn finished(unit: Unit) -> Typed
-    ensures { view_typed result ≡ spec.finished (view_unit unit) }
+fn finished<'a>(unit: Unit<'a>) -> Typed<'a>
+    ensures { view_typed result ≡ spec.finished (view_unit unit.entry) }
 {
     let Unit {
         context,
@@ -123,9 +133,9 @@ fn finished(unit: Unit) -> Typed
 }
 
 /// The file with its names replaced by what they stand for and each expression with its type, or its first fault, in the order of the text, among
-/// declarations and code.
+/// declarations and code. Its annotations are those of the program, which it borrows.
 #[tactic(auto, using(c_answers::proofs::After::after_laws), unfolding(crate::specs::Typing::typed_program))]
-pub fn type_program(alloc: Global, program: &Program, model: Machdep) -> Result<Typed, Stop>
+pub fn type_program(alloc: Global, program: &Program, model: Machdep) -> Result<Typed<'_>, Stop>
     ensures { Gives view_typed result (spec.typed_program model (view_program program.now)) }
 {
     let facts = facts_of(alloc, program)?;

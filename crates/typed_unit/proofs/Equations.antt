@@ -1,6 +1,7 @@
 -- The plain tree of a statement, by its variant.
 use Rattle.std.proofs.Common.{◌≡◌, ℕ, ℤ, List, Option, map, ap, sym, ◌∙◌}
 use Rattle.std.specs.Option.{option_map}
+use Rattle.std.specs.Borrow.{Bor}
 use Rattle.c_syntax.specs.declared.annot.LoopAnnot.{LoopAnnot}
 use Rattle.c_syntax.specs.declared.annot.Pred.{Pred}
 use Rattle.c_syntax.specs.View.{view_pred, view_loop}
@@ -48,11 +49,11 @@ view_stmt_node-If test a b line =
     ap (λ f. f line) (ap view_stmt_node (sym (stmt.rolls-If test a b)) ∙ fold-roll-StmtNode (ℕ → s.Stmt) s.Stmt stmt_node_layer stmt_layer (StmtNode-F.If test a b))
     ∙ (λ i. s.if_else line (view_value test) (stmt_whole a i) (stmt_whole b i))
 
-pub view_stmt_node-Loop : (annot : LoopAnnot) (turns : Turns) (a : Stmt) (line : ℕ) → view_stmt_node (stmt.Loop annot turns a) line ≡ s.loop_of line (view_loop annot) (view_turns turns) (view_stmt a)
+pub view_stmt_node-Loop : (annot : Bor LoopAnnot) (turns : Turns) (a : Stmt) (line : ℕ) → view_stmt_node (stmt.Loop annot turns a) line ≡ s.loop_of line (view_loop annot.now) (view_turns turns) (view_stmt a)
 unfolding view_stmt_node
 view_stmt_node-Loop annot turns a line =
     ap (λ f. f line) (ap view_stmt_node (sym (stmt.rolls-Loop annot turns a)) ∙ fold-roll-StmtNode (ℕ → s.Stmt) s.Stmt stmt_node_layer stmt_layer (StmtNode-F.Loop annot turns a))
-    ∙ (λ i. s.loop_of line (view_loop annot) (view_turns turns) (stmt_whole a i))
+    ∙ (λ i. s.loop_of line (view_loop annot.now) (view_turns turns) (stmt_whole a i))
 
 pub view_stmt_node-Switch : (v : Value) (body : List Stmt) (line : ℕ) → view_stmt_node (stmt.Switch v body) line ≡ s.switch line (view_value v) (s.stmts_of (map view_stmt body))
 unfolding view_stmt_node
@@ -85,7 +86,7 @@ unfolding view_stmt_node
 view_stmt_node-Return v line =
     ap (λ f. f line) (ap view_stmt_node (sym (stmt.rolls-Return v)) ∙ fold-roll-StmtNode (ℕ → s.Stmt) s.Stmt stmt_node_layer stmt_layer (StmtNode-F.Return v))
 
-pub view_stmt_node-Assert : (p : Pred) (line : ℕ) → view_stmt_node (stmt.Assert p) line ≡ s.assert line (view_pred p)
+pub view_stmt_node-Assert : (p : Bor Pred) (line : ℕ) → view_stmt_node (stmt.Assert p) line ≡ s.assert line (view_pred p.now)
 unfolding view_stmt_node
 view_stmt_node-Assert p line =
     ap (λ f. f line) (ap view_stmt_node (sym (stmt.rolls-Assert p)) ∙ fold-roll-StmtNode (ℕ → s.Stmt) s.Stmt stmt_node_layer stmt_layer (StmtNode-F.Assert p))

@@ -29,14 +29,14 @@ stmt_node_layer (StmtNode-F.Expr v) line = s.expr line (view_value v)
 stmt_node_layer (StmtNode-F.Block body) line = s.block line (s.stmts_of body)
 stmt_node_layer (StmtNode-F.Locals vars) line = s.locals line (map view_declared vars)
 stmt_node_layer (StmtNode-F.If test a b) line = s.if_else line (view_value test) a b
-stmt_node_layer (StmtNode-F.Loop annot turns a) line = s.loop_of line (view_loop annot) (view_turns turns) a
+stmt_node_layer (StmtNode-F.Loop annot turns a) line = s.loop_of line (view_loop annot.now) (view_turns turns) a
 stmt_node_layer (StmtNode-F.Switch v body) line = s.switch line (view_value v) (s.stmts_of body)
 stmt_node_layer (StmtNode-F.Case z) line = s.case_of line z
 stmt_node_layer StmtNode-F.Default line = s.default line
 stmt_node_layer StmtNode-F.Break line = s.break line
 stmt_node_layer StmtNode-F.Continue line = s.continue line
 stmt_node_layer (StmtNode-F.Return v) line = s.return_of line (option_map view_value v)
-stmt_node_layer (StmtNode-F.Assert p) line = s.assert line (view_pred p)
+stmt_node_layer (StmtNode-F.Assert p) line = s.assert line (view_pred p.now)
 
 abbrev pub stmt_layer : Stmt-F (ℕ → s.Stmt) s.Stmt → s.Stmt
 stmt_layer x = x.node x.line
@@ -57,8 +57,8 @@ abbrev pub view_body : Body → u.Body
 view_body x = record { function = x.function; locals = x.locals; plain = x.plain; stmt = view_stmt x.stmt; line = x.line; end = x.end }
 
 abbrev pub view_annotated : Annotated → u.Annotated
-view_annotated (annotated.Function number params contract) = u.of_function number params (view_contract contract)
-view_annotated (annotated.Logic d) = u.of_logic (view_logic d)
+view_annotated (annotated.Function number params contract) = u.of_function number params (view_contract contract.now)
+view_annotated (annotated.Logic d) = u.of_logic (view_logic d.now)
 
 abbrev pub view_part : Part → u.Part
 view_part x = record { names = x.names; tags = x.tags; decl = view_annotated x.decl }

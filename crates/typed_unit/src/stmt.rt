@@ -7,32 +7,32 @@ use wp_base::{Boxed, Line, List};
 /// A statement, with the line of its keyword.
 #[derive(Drop)]
 #[cycle(typed_stmt)]
-pub struct Stmt {
-    pub node: StmtNode,
+pub struct Stmt<'a> {
+    pub node: StmtNode<'a>,
     pub line: Line,
 }
 
-/// What a statement does. Annotations stand in it as spelled.
+/// What a statement does. Annotations are those of the program as spelled.
 #[derive(Drop)]
 #[cycle(typed_stmt)]
-pub enum StmtNode {
+pub enum StmtNode<'a> {
     Empty,
     Expr(Value),
-    Block(List<Stmt>),
+    Block(List<Stmt<'a>>),
     /// Locals of the block around, which are declared here, in order.
     Locals(List<Declared>),
     /// One without `else` has an empty statement there.
-    If(Value, Boxed<Stmt>, Boxed<Stmt>),
+    If(Value, Boxed<Stmt<'a>>, Boxed<Stmt<'a>>),
     /// `while`, `do` and `for` alike; what a `for` does first stands before it, in a block around both.
-    Loop(LoopAnnot, Turns, Boxed<Stmt>),
-    Switch(Value, List<Stmt>),
+    Loop(&'a LoopAnnot, Turns, Boxed<Stmt<'a>>),
+    Switch(Value, List<Stmt<'a>>),
     /// A label of the `switch` around, with a number of the kind of its operand.
     Case(i128),
     Default,
     Break,
     Continue,
     Return(Option<Value>),
-    Assert(Pred),
+    Assert(&'a Pred),
 }
 
 /// What a loop evaluates beside its body: the condition of `while` and `for`, before each turn; that of `do`, after each; and the step

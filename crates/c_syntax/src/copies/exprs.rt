@@ -1,7 +1,6 @@
 // Copies of expressions.
 ghost use Rattle.std.specs.Prelude.{◌≡◌, IfOk};
 
-use crate::copies::parts::Copies;
 use crate::expr::{Expr, ExprNode};
 use crate::shapes::ExprShape;
 use std::alloc::Global;
@@ -58,10 +57,4 @@ fn copy_exprs(exprs: &List<Expr>, alloc: Global) -> Result<List<Expr>, NoMemory>
         copies.push(expr.copy(alloc)?)?;
     }
     Ok(copies)
-}
-
-impl Copies for Expr {
-    fn copy_of(&self, alloc: Global) -> Result<Expr, NoMemory> {
-        self.copy(alloc)
-    }
 }

@@ -1,39 +1,8 @@
-// Copies of lists and of what may be absent, and parts that are put together where none lacked memory.
+// Parts that are put together where none lacked memory.
 ghost use Rattle.std.specs.Prelude.{◌≡◌, IfOk, Ok};
 
 use std::alloc::Global;
-use wp_base::{Boxed, List, NoMemory, Str};
-
-// What has a copy that equals it.
-pub(crate) trait Copies: Drop {
-    fn copy_of(&self, alloc: Global) -> Result<Self, NoMemory>
-        ensures { IfOk result (λ copy. copy ≡ self.now) };
-}
-
-impl Copies for Str {
-    fn copy_of(&self, alloc: Global) -> Result<Str, NoMemory> {
-        self.copy(alloc)
-    }
-}
-
-impl<T: Copies> Copies for List<T> {
-    fn copy_of(&self, alloc: Global) -> Result<List<T>, NoMemory> {
-        let mut copies = List::new(alloc);
-        for item in self.as_slice() {
-            copies.push(item.copy_of(alloc)?)?;
-        }
-        Ok(copies)
-    }
-}
-
-impl<T: Copies> Copies for Option<T> {
-    fn copy_of(&self, alloc: Global) -> Result<Option<T>, NoMemory> {
-        match self {
-            None => Ok(None),
-            Some(item) => Ok(Some(item.copy_of(alloc)?)),
-        }
-    }
-}
+use wp_base::{Boxed, NoMemory};
 
 // Both, where neither lacked memory.
 pub(crate) fn both<A: Drop, B: Drop>(

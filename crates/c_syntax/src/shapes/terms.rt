@@ -1,17 +1,11 @@
 // Terms by what they hold (ACSL 2.2).
-ghost use Rattle.std.specs.Prelude.{◌≡◌, List};
-ghost use Rattle.c_syntax.specs.Copies.{IsCopy};
-ghost use Rattle.c_syntax.specs.declared.annot.Term.{Term as term};
-ghost use Rattle.c_syntax.specs.declared.annot.TermNode.{TermNode as node};
-ghost use Rattle.c_syntax.specs.TermShapes.{term_leaf, term_one, term_two, term_whole};
-ghost use Rattle.c_syntax.specs.declared.annot.TermNode.TheVariants as variant;
+ghost use Rattle.std.specs.Prelude.{◌≡◌};
+ghost use Rattle.c_syntax.specs.TermShapes.{term_whole};
 
 use crate::annot::{Term, TermNode};
-use crate::copies::parts::{both, both_boxed, boxed};
 use crate::expr::{BinOp, CType, UnOp};
 use crate::token::Token;
-use std::alloc::Global;
-use wp_base::{Boxed, List, NoMemory, Str};
+use wp_base::{Boxed, List, Str};
 
 /// A term in which there is no other one.
 #[derive(Clone, Copy)]
@@ -80,83 +74,5 @@ impl TermNode {
             TermNode::Null => TermShape::Leaf(TermLeaf::Null),
             TermNode::Range(low, high) => TermShape::Two(TermTwo::Range, low, high),
         }
-    }
-
-    // The term that this is, with copies of what it holds.
-    pub(crate) fn leaf(alloc: Global, leaf: TermLeaf<'_>) -> Result<TermNode, NoMemory>
-        ensures { IsCopy result (term_leaf leaf.entry) }
-    {
-        match leaf {
-            TermLeaf::Number(token) => Ok(TermNode::Number(token.copy(alloc)?)),
-            TermLeaf::Char(value) => Ok(TermNode::Char(value)),
-            TermLeaf::Name(name) => Ok(TermNode::Name(name.copy(alloc)?)),
-            TermLeaf::Result => Ok(TermNode::Result),
-            TermLeaf::Null => Ok(TermNode::Null),
-        }
-    }
-
-    pub(crate) fn one(
-        alloc: Global,
-        head: TermOne<'_>,
-        of: Result<Term, NoMemory>,
-    ) -> Result<TermNode, NoMemory>
-        ensures { (a : term) (whole : node) → whole ≡ term_one head.entry a → IsCopy of a → IsCopy result whole }
-    {
-        let of = boxed(alloc, of);
-        match head {
-            TermOne::Unary(op) => Ok(TermNode::Unary(op, of?)),
-            TermOne::Field { name, arrow } => {
-                let (of, name) = both(of, name.copy(alloc))?;
-                Ok(TermNode::Field { of, name, arrow })
-            }
-            TermOne::Cast(ty) => {
-                let (ty, of) = both(ty.copy(alloc), of)?;
-                Ok(TermNode::Cast(ty, of))
-            }
-            TermOne::Old => Ok(TermNode::Old(of?)),
-            TermOne::At(label) => {
-                let (of, label) = both(of, label.copy(alloc))?;
-                Ok(TermNode::At(of, label))
-            }
-        }
-    }
-
-    pub(crate) fn two(
-        alloc: Global,
-        head: TermTwo,
-        left: Result<Term, NoMemory>,
-        right: Result<Term, NoMemory>,
-    ) -> Result<TermNode, NoMemory>
-        ensures { (a b : term) (whole : node) → whole ≡ term_two head a b → IsCopy left a → IsCopy right b → IsCopy result whole }
-    {
-        let (left, right) = both_boxed(alloc, left, right)?;
-        Ok(match head {
-            TermTwo::Binary(op) => TermNode::Binary(op, left, right),
-            TermTwo::Index => TermNode::Index(left, right),
-            TermTwo::Range => TermNode::Range(left, right),
-        })
-    }
-
-    pub(crate) fn cond(
-        alloc: Global,
-        test: Result<Term, NoMemory>,
-        left: Result<Term, NoMemory>,
-        right: Result<Term, NoMemory>,
-    ) -> Result<TermNode, NoMemory>
-        ensures { (a b c : term) (whole : node) → whole ≡ variant.Cond a b c → IsCopy test a → IsCopy left b → IsCopy right c → IsCopy result whole }
-    {
-        let (test, (left, right)) = both(boxed(alloc, test), both_boxed(alloc, left, right))?;
-        Ok(TermNode::Cond(test, left, right))
-    }
-
-    pub(crate) fn call(
-        alloc: Global,
-        name: &Str,
-        args: Result<List<Term>, NoMemory>,
-    ) -> Result<TermNode, NoMemory>
-        ensures { (bs : List term) (whole : node) → whole ≡ variant.Call name.now bs → IsCopy args bs → IsCopy result whole }
-    {
-        let (name, args) = both(name.copy(alloc), args)?;
-        Ok(TermNode::Call(name, args))
     }
 }

@@ -29,14 +29,14 @@ decreases-typed_if l = size-Stmt l.first.now * 4 + 1
 abbrev pub decreases-typed_if_else : goal.decreases-typed_if_else
 decreases-typed_if_else l = max (size-Stmt l.first.now) (size-Stmt l.other.now) * 4 + 1
 
-abbrev pub decreases-typed_while : goal.decreases-typed_while
-decreases-typed_while l = size-Stmt l.body.now * 4 + 1
+abbrev pub decreases-typed_loop : goal.decreases-typed_loop
+decreases-typed_loop l = size-Stmt l.body.now * 4 + 1
 
 abbrev pub decreases-typed_do : goal.decreases-typed_do
 decreases-typed_do l = size-Stmt l.body.now * 4 + 1
 
 abbrev pub decreases-typed_for : goal.decreases-typed_for
-decreases-typed_for l = max (size-Stmt l.first.now) (size-Stmt l.body.now) * 4 + 1
+decreases-typed_for l = max (size-Stmt l.first.now) (size-Stmt l.body.now) * 4 + 2
 
 abbrev pub decreases-typed_stmts : goal.decreases-typed_stmts
 decreases-typed_stmts l = goal.size-typed_stmts l * 4 + 2

@@ -1,2 +1,4 @@
 pub mod Operands
 pub mod Contexts
+pub mod Wholes
+pub mod Down

@@ -59,24 +59,43 @@ fn and_also(first: Found, second: Found) -> Found
 }
 
 /// The effects in an expression.
+// Goes down the operand in which the forms may be as many as there are tokens: the first one, or the last arm of a choice.
 #[cycle(effects)]
-#[tactic(auto, using(typed_prog::proofs::Equations::view_laws))]
+#[tactic(auto, using(typed_prog::proofs::Equations::view_laws, crate::proofs::Down::effect_turns))]
 pub fn effects(value: &Value) -> Found
     ensures { result ≡ spec.node_effects (view_value_node value.now.node) }
 {
-    match &value.node {
-        ValueNode::Constant(_) => Found::Nothing,
-        ValueNode::Null => Found::Nothing,
-        ValueNode::Temporary(_) => Found::Nothing,
-        ValueNode::Apply(_, operands) => all_effects(operands.as_slice()),
-        ValueNode::Logic(_, first, second) => and_also(effects(first.get()), effects(second.get())),
-        ValueNode::Choose(test, first, second) => {
-            let arms = and_also(effects(first.get()), effects(second.get()));
-            and_also(effects(test.get()), arms)
-        }
-        ValueNode::Effect(effect, operands) => {
-            let inside = all_effects(operands.as_slice());
-            and_also(Found::One(embedded_in(effect)), inside)
+    let mut found = Found::Nothing;
+    let mut rest = value;
+    loop {
+        match &rest.node {
+            ValueNode::Constant(_) => return found,
+            ValueNode::Null => return found,
+            ValueNode::Temporary(_) => return found,
+            ValueNode::Apply(_, operands) => {
+                let Some((first, others)) = operands.as_slice().split_first() else {
+                    return found;
+                };
+                found = and_also(all_effects(others), found);
+                rest = first;
+            }
+            ValueNode::Logic(_, first, second) => {
+                found = and_also(effects(second.get()), found);
+                rest = first.get();
+            }
+            ValueNode::Choose(test, first, second) => {
+                let before = and_also(effects(test.get()), effects(first.get()));
+                found = and_also(before, found);
+                rest = second.get();
+            }
+            ValueNode::Effect(effect, operands) => {
+                found = and_also(Found::One(embedded_in(effect)), found);
+                let Some((first, others)) = operands.as_slice().split_first() else {
+                    return found;
+                };
+                found = and_also(all_effects(others), found);
+                rest = first;
+            }
         }
     }
 }

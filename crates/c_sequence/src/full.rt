@@ -135,28 +135,26 @@ fn is_of_context(op: &Op) -> bool
 pub fn is_sequenced(globals: &[bool], locals: &[bool], value: &Value) -> bool
     ensures { result ≡ spec.sequenced (plain_of globals.now locals.now) (view_value value.now) }
 {
-    match &value.node {
-        ValueNode::Effect(effect, operands) => is_fine_effect(
-            globals,
-            locals,
-            value,
-            effect,
-            operands.as_slice(),
-        ),
-        ValueNode::Apply(op, operands) => {
-            if !is_of_context(op) {
-                return is_fine_alone(globals, locals, value);
+    let mut rest = value;
+    loop {
+        match &rest.node {
+            ValueNode::Effect(effect, operands) => {
+                return is_fine_effect(globals, locals, rest, effect, operands.as_slice());
             }
-            if operands.len() != 1 {
-                return is_fine_alone(globals, locals, value);
+            ValueNode::Apply(op, operands) => {
+                if !is_of_context(op) {
+                    return is_fine_alone(globals, locals, rest);
+                }
+                if operands.len() != 1 {
+                    return is_fine_alone(globals, locals, rest);
+                }
+                rest = &operands.as_slice()[0];
             }
-            let inside = &operands.as_slice()[0];
-            is_sequenced(globals, locals, inside)
+            ValueNode::Constant(_) => return is_fine_alone(globals, locals, rest),
+            ValueNode::Null => return is_fine_alone(globals, locals, rest),
+            ValueNode::Temporary(_) => return is_fine_alone(globals, locals, rest),
+            ValueNode::Logic(_, _, _) => return is_fine_alone(globals, locals, rest),
+            ValueNode::Choose(_, _, _) => return is_fine_alone(globals, locals, rest),
         }
-        ValueNode::Constant(_) => is_fine_alone(globals, locals, value),
-        ValueNode::Null => is_fine_alone(globals, locals, value),
-        ValueNode::Temporary(_) => is_fine_alone(globals, locals, value),
-        ValueNode::Logic(_, _, _) => is_fine_alone(globals, locals, value),
-        ValueNode::Choose(_, _, _) => is_fine_alone(globals, locals, value),
     }
 }

@@ -2,6 +2,7 @@
 #![tactic(auto)]
 
 mod found;
+mod frames;
 mod full;
 mod summaries;
 

@@ -1,12 +1,16 @@
 // What is unsequenced with the embedded effect, and what it reads.
 ghost use Rattle.std.specs.Prelude.{◌≡◌, false, map, slice_index_or};
+ghost use Rattle.c_sequence.specs.Around.{in_order_with};
 ghost use Rattle.c_sequence.specs.Sequence as spec;
 ghost use Rattle.c_sequence.specs.Sequence.{plain_of};
 ghost use Rattle.typed_prog.specs.Tree as t;
 ghost use Rattle.typed_prog.specs.View.{view_value, view_value_node};
 
 use crate::found::Embedded;
-use typed_prog::{Effect, Op, Path, Root, Value, ValueNode, Variable};
+use crate::frames::{
+    Around, beside_this, effect_of, in_order_with, nothing_around, operator_of, outside, whole,
+};
+use typed_prog::{Effect, Path, Root, Value, ValueNode, Variable};
 
 /// What is known of a part of a full expression.
 #[derive(Clone, Copy)]
@@ -68,7 +72,7 @@ fn leaves_alone(embedded: Embedded, variable: Variable) -> bool
     }
 }
 
-fn may_read(globals: &[bool], locals: &[bool], embedded: Embedded, root: Root) -> bool
+pub(crate) fn may_read(globals: &[bool], locals: &[bool], embedded: Embedded, root: Root) -> bool
     ensures { result ≡ spec.may_read_at (plain_of globals.now locals.now) embedded root }
 {
     match root {
@@ -83,7 +87,7 @@ fn may_read(globals: &[bool], locals: &[bool], embedded: Embedded, root: Root) -
 }
 
 // No effect and no read.
-fn quiet() -> Summary
+pub(crate) fn quiet() -> Summary
     ensures { result ≡ spec.quiet }
 {
     Summary {
@@ -139,33 +143,7 @@ pub(crate) fn reading(may: bool, of: Summary) -> Summary
     }
 }
 
-fn through(globals: &[bool], locals: &[bool], embedded: Embedded, op: &Op, of: Summary) -> Summary
-    ensures { result ≡ spec.through (plain_of globals.now locals.now) embedded op.now of }
-{
-    match op {
-        Op::Read(path) => reading(may_read(globals, locals, embedded, path.root), of),
-        Op::Address(_, _) => of,
-        Op::Decay(_, _) => of,
-        Op::Negate => of,
-        Op::Complement => of,
-        Op::Not => of,
-        Op::Arithmetic(_) => of,
-        Op::Compare(_) => of,
-        Op::ComparePointers(_) => of,
-        Op::Offset {
-            minus: _,
-            index_first: _,
-            size: _,
-            accessed: _,
-        } => of,
-        Op::Difference { size: _ } => of,
-        Op::Convert => of,
-        Op::Requalify => of,
-        Op::Cast => of,
-    }
-}
-
-fn is_pending(effect: &Effect) -> bool
+pub(crate) fn is_pending(effect: &Effect) -> bool
     ensures { result ≡ spec.is_pending effect.now }
 {
     match effect {
@@ -179,26 +157,17 @@ fn is_pending(effect: &Effect) -> bool
     }
 }
 
-fn at_effect(effect: &Effect, of: Summary) -> Summary
-    ensures { result ≡ spec.at_effect effect.now of }
+// What stands around the second arm of a choice.
+fn choice_of(test: Summary, first: Summary) -> Around
+    ensures { result ≡ in_order_with (spec.in_order (spec.ended test) first) }
 {
-    Summary {
-        holds: true,
-        reads: of.reads,
-        fine: of.fine,
-        pending: is_pending(effect),
-    }
-}
-
-fn chosen(test: Summary, first: Summary, second: Summary) -> Summary
-    ensures { result ≡ spec.in_order (spec.ended test) (spec.in_order first second) }
-{
-    in_order(ended(test), in_order(first, second))
+    in_order_with(in_order(ended(test), first))
 }
 
 /// What is known of an expression that holds the embedded effect, or none.
+// Goes down the operand in which the forms may be as many as there are tokens: the first one, or the last arm of a choice.
 #[cycle(summed)]
-#[tactic(auto, using(typed_prog::proofs::Equations::view_laws))]
+#[tactic(auto, using(typed_prog::proofs::Equations::view_laws, crate::proofs::Down::summary_turns))]
 pub(crate) fn summed(
     globals: &[bool],
     locals: &[bool],
@@ -207,26 +176,42 @@ pub(crate) fn summed(
 ) -> Summary
     ensures { result ≡ spec.node_summed (plain_of globals.now locals.now) embedded (view_value_node value.now.node) }
 {
-    match &value.node {
-        ValueNode::Constant(_) => quiet(),
-        ValueNode::Null => quiet(),
-        ValueNode::Temporary(_) => quiet(),
-        ValueNode::Apply(op, operands) => {
-            let inside = all_summed(globals, locals, embedded, operands.as_slice());
-            through(globals, locals, embedded, op, inside)
-        }
-        ValueNode::Logic(_, first, second) => {
-            let first = summed(globals, locals, embedded, first.get());
-            in_order(first, summed(globals, locals, embedded, second.get()))
-        }
-        ValueNode::Choose(test, first, second) => {
-            let test = summed(globals, locals, embedded, test.get());
-            let first = summed(globals, locals, embedded, first.get());
-            chosen(test, first, summed(globals, locals, embedded, second.get()))
-        }
-        ValueNode::Effect(effect, operands) => {
-            let inside = all_summed(globals, locals, embedded, operands.as_slice());
-            at_effect(effect, inside)
+    let mut around = nothing_around();
+    let mut rest = value;
+    loop {
+        match &rest.node {
+            ValueNode::Constant(_) => return whole(around, quiet()),
+            ValueNode::Null => return whole(around, quiet()),
+            ValueNode::Temporary(_) => return whole(around, quiet()),
+            ValueNode::Apply(op, operands) => {
+                around = outside(around, operator_of(globals, locals, embedded, op));
+                let Some((first, others)) = operands.as_slice().split_first() else {
+                    return whole(around, quiet());
+                };
+                let others = all_summed(globals, locals, embedded, others);
+                around = outside(around, beside_this(others));
+                rest = first;
+            }
+            ValueNode::Logic(_, first, second) => {
+                let second = summed(globals, locals, embedded, second.get());
+                around = outside(around, in_order_with(second));
+                rest = first.get();
+            }
+            ValueNode::Choose(test, first, second) => {
+                let test = summed(globals, locals, embedded, test.get());
+                let first = summed(globals, locals, embedded, first.get());
+                around = outside(around, choice_of(test, first));
+                rest = second.get();
+            }
+            ValueNode::Effect(effect, operands) => {
+                around = outside(around, effect_of(effect));
+                let Some((first, others)) = operands.as_slice().split_first() else {
+                    return whole(around, quiet());
+                };
+                let others = all_summed(globals, locals, embedded, others);
+                around = outside(around, beside_this(others));
+                rest = first;
+            }
         }
     }
 }

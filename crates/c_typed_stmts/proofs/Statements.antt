@@ -2,31 +2,31 @@
 use Rattle.std.proofs.Common.{◌≡◌, ℕ, ℤ, Bool, true, false, if◌then◌else◌, List, [], ◌∷◌, ◌++◌, Option, Some, None, Ok, Err, refl, sym, ap, subst, ◌∙◌}
 use Rattle.wp_base.specs.declared.kinds.Kind.{Kind}
 use Rattle.c_syntax.specs.Expr as e
-use Rattle.c_syntax.specs.Lines.{line_of}
+use Rattle.c_syntax.specs.Contract.{LoopAnnot}
 use Rattle.c_syntax.specs.Stmt as p
 use Rattle.wp_base.specs.declared.kinds.Layout.{Layout}
-use Rattle.c_answers.specs.Answers.{Answer, after, unknown, wrong}
+use Rattle.c_answers.specs.Answers.{Answer, after, wrong}
 use Rattle.typed_prog.specs.declared.types.CoreType.{CoreType}
 use Rattle.typed_prog.specs.Types.{is_void}
 use Rattle.typed_prog.specs.Tree as t
 use Rattle.c_operands.specs.Conversions.{kind_of_value}
-use Rattle.c_contexts.specs.Contexts.{case_number, constant_number, initialiser}
+use Rattle.c_contexts.specs.Contexts.{case_number, initialiser}
 use Rattle.c_scopes.specs.declared.symbols.Resolved.{Resolved}
 use Rattle.c_scopes.specs.Declarations.{is_free_here}
 use Rattle.c_scopes.specs.Extents.{extent}
-use Rattle.c_scopes.specs.Meanings.{named, type_of, array_meaning}
 use Rattle.c_variables.specs.declared.context.Context.{Context}
 use Rattle.c_variables.specs.Contexts.{around_of, plain_in}
 use Rattle.c_variables.specs.Variables.{variable}
 use Rattle.typed_unit.specs.Stmt as s
 use Rattle.c_stmts.specs.Locals.{local_type, with_variable, count_of, initialising, initial_value, initialised, made_local, local, locals}
 use Rattle.c_stmts.specs.Cases.{is_among, with_case}
-use Rattle.c_stmts.specs.Statements.{entered, left, test_of, value_of, switched_value, test_if, step_if, return_by, return_value, turns_with, in_for, number_for, Item, item_with, label, item, stmt, stmts, labelled}
+use Rattle.c_stmts.specs.Statements.{entered, left, test_of, value_of, switched_value, test_if, step_if, return_by, return_value, turns_with, turns_before, turns_behind, turns_of, in_for, loop_by, for_by, number_for, Item, item_with, label, item, stmt, stmts, labelled}
 use Rattle.c_well_typed.proofs.Fitting.{Holds, after_holds}
 use Rattle.c_typed_stmts.specs.Full.{IsFull, IsTest, IsAssigned, IsSwitched, IfThere}
 use Rattle.c_typed_stmts.specs.Judgement as j
 use Rattle.c_typed_stmts.specs.Judgement.{IsLocal, AreLocals, IsReturned, IsTyped, AreTyped, AreLabelled}
 use Rattle.c_typed_stmts.specs.Law.{TypedStatementsAreInOrder}
+use Rattle.c_typed_stmts.proofs.Names.{new_variable}
 use Rattle.c_typed_stmts.proofs.Values.{after_this, this, tested, done, initialised_by, returned_by, switched_over}
 
 -- ---- expressions that may be left out
@@ -46,6 +46,37 @@ init_there c type None = tt
 init_there c type (Some a) =
     after_holds (IsAssigned c type a) (IfThere (IsAssigned c type) (Some a)) (initialiser (around_of c) (plain_in c) type a) (λ v. Ok (Some v)) (initialised_by c type a) (λ v is. is)
 
+-- what a loop evaluates beside its body
+record Before (c : Context) (a : e.Expr) (r : s.Turns) : Type 0 where
+  test : t.Value
+  is : IsTest c a test
+  made : r ≡ turns_with (Some test) None None
+
+before_there : (c : Context) (a : e.Expr) → Holds (Before c a) (turns_before c a)
+unfolding test_of
+before_there c a = after_holds (IsTest c a) (Before c a) (test_of c a) _ (tested c a) (λ v is. record { test = v; is = is; made = refl })
+
+record Behind (c : Context) (a : e.Expr) (r : s.Turns) : Type 0 where
+  test : t.Value
+  is : IsTest c a test
+  made : r ≡ turns_with None (Some test) None
+
+behind_there : (c : Context) (a : e.Expr) → Holds (Behind c a) (turns_behind c a)
+unfolding test_of
+behind_there c a = after_holds (IsTest c a) (Behind c a) (test_of c a) _ (tested c a) (λ v is. record { test = v; is = is; made = refl })
+
+record Around (c : Context) (a b : Option e.Expr) (r : s.Turns) : Type 0 where
+  test : Option t.Value
+  step : Option t.Value
+  is : IfThere (IsTest c) a test
+  so : IfThere (IsFull c) b step
+  made : r ≡ turns_with test None step
+
+around_there : (c : Context) (a b : Option e.Expr) → Holds (Around c a b) (turns_of c a b)
+around_there c a b =
+    after_holds (IfThere (IsTest c) a) (Around c a b) (test_if c a) _ (test_there c a) (λ v is.
+    after_holds (IfThere (IsFull c) b) (Around c a b) (step_if c b) _ (step_there c b) (λ w so. record { test = v; step = w; is = is; so = so; made = refl }))
+
 returned_there : (c : Context) (line : ℕ) (a : Option e.Expr) → Holds (IsReturned c a) (return_value c line a)
 unfolding return_value
 returned_there c line a = by a (is_void c.result) refl
@@ -57,27 +88,6 @@ returned_there c line a = by a (is_void c.result) refl
     by (Some a) false is = after_holds (IsAssigned c c.result a) (IsReturned c (Some a)) _ (λ v. Ok (Some v)) (returned_by c line c.result a) (λ v made. j.with_value a v is made)
 
 -- ---- locals
-
--- a name that isn't new is a fault
-new_name : (c : Context) (b : Bool) (line : ℕ) (type : e.CType) (r : Resolved) → variable (around_of c) b line type ≡ Ok r → b ≡ true
-unfolding variable
-new_name c true line type r is = refl
-new_name c false line type r is = absurd (refused type is)
-  where
-    at_name : {X : Type 0} (o : Answer (Option Resolved)) (f : Option Resolved → Answer X) (x : X) → after (after o (λ t. unknown line)) f ≡ Ok x → ⊥
-    at_name (Ok t) f x is = cc
-    at_name (Err q) f x is = cc
-
-    refused : (type : e.CType) → variable (around_of c) false line type ≡ Ok r → ⊥
-    refused (e.array of length) is = at_name (named c.scope.file line of) (λ t. after (constant_number (around_of c) length) (array_meaning line (line_of length) t)) r is
-    refused e.void is = at_name (named c.scope.file line e.void) (type_of line) r is
-    refused (e.kind k) is = at_name (named c.scope.file line (e.kind k)) (type_of line) r is
-    refused e.integer is = at_name (named c.scope.file line e.integer) (type_of line) r is
-    refused (e.struct_of x) is = at_name (named c.scope.file line (e.struct_of x)) (type_of line) r is
-    refused (e.enum_of x) is = at_name (named c.scope.file line (e.enum_of x)) (type_of line) r is
-    refused (e.named x) is = at_name (named c.scope.file line (e.named x)) (type_of line) r is
-    refused (e.pointer to) is = at_name (named c.scope.file line (e.pointer to)) (type_of line) r is
-    refused (e.constant of) is = at_name (named c.scope.file line (e.constant of)) (type_of line) r is
 
 -- the type of a local
 record TypeOf (c : Context) (d : e.VarDecl) (r : Resolved) : Type 0 where
@@ -94,7 +104,7 @@ typed_local c d = by (variable (around_of c) (is_free_here c.scope.local d.name)
     by : (o : Answer Resolved) → variable (around_of c) (is_free_here c.scope.local d.name) d.line d.ty ≡ o
         → Holds (TypeOf c d) (after o (λ t. after (extent c.scope.file.structs d.line t) (λ layout. Ok t)))
     by (Ok r) is =
-        let new = new_name c (is_free_here c.scope.local d.name) d.line d.ty r is in
+        let new = new_variable (around_of c) (is_free_here c.scope.local d.name) d.line d.ty r is in
         kept r (extent c.scope.file.structs d.line r) (record { new = new; means = subst (λ b. variable (around_of c) b d.line d.ty ≡ Ok r) new is })
     by (Err q) is = tt
 
@@ -173,8 +183,18 @@ a_switch : (c : Context) (a : e.Expr) → Holds (IsSwitched c a) (switched_value
 unfolding switched_value
 a_switch c a = switched_over c a
 
+-- the loop of a `for` behind what comes first in it
+looped : (c : Context) (line : ℕ) (annot : LoopAnnot) (first : p.Stmt) (test next : Option e.Expr) (body : p.Stmt) (r : s.Stmt × Context) → IsTyped (entered c) first r.0 r.1
+    → (o : Answer s.Turns) → Holds (Around r.1 test next) o → (q : Answer (s.Stmt × Context)) → Holds (Typed r.1 body) q
+    → Holds (Typed c (p.for_of line annot first test next body)) (for_by line r.0 (after o (λ turns. loop_by line annot turns q)))
+looped c line annot first test next body r so (Ok turns) of (Ok q) on =
+    subst (λ u. IsTyped c (p.for_of line annot first test next body) (in_for line r.0 (s.loop_of line annot u q.0)) (left q.1)) (sym of.made)
+    (j.for_loop c r.1 q.1 line annot first body test next r.0 q.0 of.test of.step so of.is of.so on)
+looped c line annot first test next body r so (Ok turns) of (Err f) on = tt
+looped c line annot first test next body r so (Err f) of q on = tt
+
 mutual
-  a_stmt : (c : Context) (x : p.Stmt) → Holds (Typed c x) (stmt c x)
+  pub a_stmt : (c : Context) (x : p.Stmt) → Holds (Typed c x) (stmt c x)
   a_stmt c (p.empty line) = j.empty c line
   a_stmt c (p.expr line a) = after_holds (IsFull c a) (Typed c (p.expr line a)) (value_of c a) _ (a_value c a) (λ v is. j.expr c line a v is)
   a_stmt c (p.block line xs) =
@@ -189,17 +209,16 @@ mutual
       after_holds (Typed c x) (Typed c (p.if_else line test x y)) (stmt c x) _ (a_stmt c x) (λ r of.
       after_holds (Typed r.1 y) (Typed c (p.if_else line test x y)) (stmt r.1 y) _ (a_stmt r.1 y) (λ q of'. j.if_else c r.1 q.1 line test v x y r.0 q.0 is of of')))
   a_stmt c (p.while_of line annot test x) =
-      after_holds (IsTest c test) (Typed c (p.while_of line annot test x)) (test_of c test) _ (a_test c test) (λ v is.
-      after_holds (Typed c x) (Typed c (p.while_of line annot test x)) (stmt c x) _ (a_stmt c x) (λ r of. j.while_loop c r.1 line annot test v x r.0 is of))
+      after_holds (Before c test) (Typed c (p.while_of line annot test x)) (turns_before c test) _ (before_there c test) (λ turns of.
+      after_holds (Typed c x) (Typed c (p.while_of line annot test x)) (stmt c x) _ (a_stmt c x) (λ r so.
+      subst (λ u. IsTyped c (p.while_of line annot test x) (s.loop_of line annot u r.0) r.1) (sym of.made) (j.while_loop c r.1 line annot test of.test x r.0 of.is so)))
   a_stmt c (p.do_of line annot x test) =
-      after_holds (Typed c x) (Typed c (p.do_of line annot x test)) (stmt c x) _ (a_stmt c x) (λ r of.
-      after_holds (IsTest r.1 test) (Typed c (p.do_of line annot x test)) (test_of r.1 test) _ (a_test r.1 test) (λ v is. j.do_loop c r.1 line annot test v x r.0 of is))
+      after_holds (Typed c x) (Typed c (p.do_of line annot x test)) (stmt c x) _ (a_stmt c x) (λ r so.
+      after_holds (Behind r.1 test) (Typed c (p.do_of line annot x test)) (turns_behind r.1 test) _ (behind_there r.1 test) (λ turns of.
+      subst (λ u. IsTyped c (p.do_of line annot x test) (s.loop_of line annot u r.0) r.1) (sym of.made) (j.do_loop c r.1 line annot test of.test x r.0 so of.is)))
   a_stmt c (p.for_of line annot first test next body) =
-      after_holds (Typed (entered c) first) (Typed c (p.for_of line annot first test next body)) (stmt (entered c) first) _ (a_stmt (entered c) first) (λ r of.
-      after_holds (IfThere (IsTest r.1) test) (Typed c (p.for_of line annot first test next body)) (test_if r.1 test) _ (test_there r.1 test) (λ v is.
-      after_holds (IfThere (IsFull r.1) next) (Typed c (p.for_of line annot first test next body)) (step_if r.1 next) _ (step_there r.1 next) (λ w is'.
-      after_holds (Typed r.1 body) (Typed c (p.for_of line annot first test next body)) (stmt r.1 body) _ (a_stmt r.1 body) (λ q of'.
-      j.for_loop c r.1 q.1 line annot first body test next r.0 q.0 v w of is is' of'))))
+      after_holds (Typed (entered c) first) (Typed c (p.for_of line annot first test next body)) (stmt (entered c) first) _ (a_stmt (entered c) first) (λ r so.
+      looped c line annot first test next body r so (turns_of r.1 test next) (around_there r.1 test next) (stmt r.1 body) (a_stmt r.1 body))
   a_stmt c (p.switch line a xs) =
       after_holds (IsSwitched c a) (Typed c (p.switch line a xs)) (switched_value c a) _ (a_switch c a) (λ v is.
       after_holds (λ r. AreLabelled (kind_of_value v) [] (entered c) xs r.0 r.1) (Typed c (p.switch line a xs)) (labelled (kind_of_value v) [] (entered c) xs) _
@@ -212,7 +231,7 @@ mutual
       after_holds (IsReturned c a) (Typed c (p.return_of line a)) (return_value c line a) _ (returned_there c line a) (λ v is. j.return_of c line a v is)
   a_stmt c (p.assert line q) = j.assert c line q
 
-  all_stmts : (c : Context) (xs : p.Stmts) → Holds (λ r. AreTyped c xs r.0 r.1) (stmts c xs)
+  pub all_stmts : (c : Context) (xs : p.Stmts) → Holds (λ r. AreTyped c xs r.0 r.1) (stmts c xs)
   all_stmts c p.stop = j.no_stmt c
   all_stmts c (p.more x xs) =
       after_holds (Typed c x) (λ r. AreTyped c (p.more x xs) r.0 r.1) (stmt c x) _ (a_stmt c x) (λ r is.

@@ -60,7 +60,7 @@ mutual
         → IsTyped c (p.do_of line annot x test) (s.loop_of line annot (turns_with None (Some v) None) y) behind
     for_loop : (c next behind : Context) (line : ℕ) (annot : LoopAnnot) (first body : p.Stmt) (test step : Option e.Expr) (y z : s.Stmt) (v w : Option t.Value)
         → IsTyped (entered c) first y next → IfThere (IsTest next) test v → IfThere (IsFull next) step w → IsTyped next body z behind
-        → IsTyped c (p.for_of line annot first test step body) (in_for line annot y (turns_with v None w) z) (left behind)
+        → IsTyped c (p.for_of line annot first test step body) (in_for line y (s.loop_of line annot (turns_with v None w) z)) (left behind)
     switch : (c behind : Context) (line : ℕ) (a : e.Expr) (v : t.Value) (xs : p.Stmts) (ys : s.Stmts) → IsSwitched c a v → AreLabelled (kind_of_value v) [] (entered c) xs ys behind
         → IsTyped c (p.switch line a xs) (s.switch line v ys) (left behind)
     break : (c : Context) (line : ℕ) → IsTyped c (p.break line) (s.break line) c

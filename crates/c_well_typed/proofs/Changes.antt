@@ -3,7 +3,7 @@ use Rattle.std.proofs.Common.{◌≡◌, ℕ, pos, Bool, true, false, Option, So
 use Rattle.wp_base.specs.declared.kinds.Kind.{Kind}
 use Rattle.wp_base.specs.declared.kinds.Kind.TheVariants as kind
 use Rattle.c_kinds.specs.declared.models.Machdep.{Machdep}
-use Rattle.c_kinds.specs.Conversions.{promote}
+use Rattle.c_kinds.specs.Conversions.{promote, common}
 use Rattle.c_syntax.specs.declared.expr.BinOp.{BinOp}
 use Rattle.typed_prog.specs.declared.types.CoreType.{CoreType}
 use Rattle.typed_prog.specs.declared.operators.Arithmetic.{Arithmetic}
@@ -62,24 +62,29 @@ shifted_is : (m : Machdep) (shift : Bool) (j k : Kind) → shift ≡ true → co
 shifted_is m true j k h = refl
 shifted_is m false j k h = absurd cc
 
+joined_is : (m : Machdep) (shift : Bool) (j k : Kind) → shift ≡ false → (l : Kind) × (computed_in m shift j k ≡ common m j l)
+joined_is m true j k h = absurd cc
+joined_is m false j k h = (k, refl)
+
 second_is : (m : Machdep) (shift : Bool) (j k : Kind) (a : CoreType) → a ≡ of_kind (operand_in m shift j k) → SecondFits shift (computed_in m shift j k) a
 second_is m true j k a e = (promote k, e, promoted_is k)
 second_is m false j k a e = e
 
-integer_update_fits : (c : Around) (m : Machdep) (line : ℕ) (o : Arithmetic) (how : UpdateForm) (p : Place) (v : t.Value) (j k : Kind) → PlaceFits c p
+integer_update_fits : (c : Around) (line : ℕ) (o : Arithmetic) (how : UpdateForm) (p : Place) (v : t.Value) (j k : Kind) → PlaceFits c p
     → ValueFits c v
-    → kind_of p.type ≡ Some j → kind_of_value v ≡ Some k → OperandFits c (integer_update m line o how p v j k)
-integer_update_fits c m line o how p v j k fp fv ep ev =
-    let made = converted_fits c m (operand_in m (is_shift o) j k) k v fv ev in (
+    → kind_of p.type ≡ Some j → kind_of_value v ≡ Some k → OperandFits c (integer_update c.model line o how p v j k)
+integer_update_fits c line o how p v j k fp fv ep ev =
+    let made = converted_fits c c.model (operand_in c.model (is_shift o) j k) k v fv ev in (
       (made.0, fp.0),
       (
         fp.1,
         record {
           of = j;
           integer = type_is p.type j ep;
-          promoted = computed_is m (is_shift o) j k;
-          shifted = shifted_is m (is_shift o) j k;
-          second = second_is m (is_shift o) j k _ made.1;
+          promoted = computed_is c.model (is_shift o) j k;
+          shifted = shifted_is c.model (is_shift o) j k;
+          joined = joined_is c.model (is_shift o) j k;
+          second = second_is c.model (is_shift o) j k _ made.1;
         },
       ),
     )
@@ -92,36 +97,36 @@ pointer_update_made c line how p v k (Some minus) None fp fv ev es = tt
 pointer_update_made c line how p v k (Some minus) (Some size) fp fv ev es =
     ((fv, fp.0), (fp.1, record { same = refl; movable = movable_is c p.type size es; integer = (k, ev) }))
 
-updated_by_made : (c : Around) (m : Machdep) (line : ℕ) (o : Arithmetic) (how : UpdateForm) (p : Place) (v : t.Value) (j k : Option Kind) → PlaceFits c p
+updated_by_made : (c : Around) (line : ℕ) (o : Arithmetic) (how : UpdateForm) (p : Place) (v : t.Value) (j k : Option Kind) → PlaceFits c p
     → ValueFits c v
-    → kind_of p.type ≡ j → kind_of_value v ≡ k → Made c (updated_by m c.sizes line o how p v j k)
-updated_by_made c m line o how p v (Some j) (Some k) fp fv ep ev = integer_update_fits c m line o how p v j k fp fv ep ev
-updated_by_made c m line o how p v None (Some k) fp fv ep ev = pointer_update_made c line how p v k (moves o) _ fp fv ev refl
-updated_by_made c m line o how p v None None fp fv ep ev = tt
-updated_by_made c m line o how p v (Some j) None fp fv ep ev = tt
+    → kind_of p.type ≡ j → kind_of_value v ≡ k → Made c (updated_by c.model c.sizes line o how p v j k)
+updated_by_made c line o how p v (Some j) (Some k) fp fv ep ev = integer_update_fits c line o how p v j k fp fv ep ev
+updated_by_made c line o how p v None (Some k) fp fv ep ev = pointer_update_made c line how p v k (moves o) _ fp fv ev refl
+updated_by_made c line o how p v None None fp fv ep ev = tt
+updated_by_made c line o how p v (Some j) None fp fv ep ev = tt
 
-updated_made : (c : Around) (m : Machdep) (line : ℕ) (o : Arithmetic) (how : UpdateForm) (p : Place) (v : t.Value) → PlaceFits c p → ValueFits c v
-    → Made c (updated m c.sizes line o how p v)
+updated_made : (c : Around) (line : ℕ) (o : Arithmetic) (how : UpdateForm) (p : Place) (v : t.Value) → PlaceFits c p → ValueFits c v
+    → Made c (updated c.model c.sizes line o how p v)
 unfolding updated
-updated_made c m line o how p v fp fv = updated_by_made c m line o how p v _ _ fp fv refl refl
+updated_made c line o how p v fp fv = updated_by_made c line o how p v _ _ fp fv refl refl
 
-compound_by_made : (c : Around) (m : Machdep) (line : ℕ) (o : Option Arithmetic) (p : Place) (v : Rvalue) → PlaceFits c p → RvalueFits c v
-    → Made c (compound_by m c.sizes line o p v)
-compound_by_made c m line None p v fp fv = tt
-compound_by_made c m line (Some o) p v fp fv = updated_made c m line o _ p v.value fp fv
+compound_by_made : (c : Around) (line : ℕ) (o : Option Arithmetic) (p : Place) (v : Rvalue) → PlaceFits c p → RvalueFits c v
+    → Made c (compound_by c.model c.sizes line o p v)
+compound_by_made c line None p v fp fv = tt
+compound_by_made c line (Some o) p v fp fv = updated_made c line o _ p v.value fp fv
 
-pub compound_made : (c : Around) (m : Machdep) (line : ℕ) (o : BinOp) (x y : Operand) → OperandFits c x → OperandFits c y
-    → Made c (compound m c.sizes line o x y)
+pub compound_made : (c : Around) (line : ℕ) (o : BinOp) (x y : Operand) → OperandFits c x → OperandFits c y
+    → Made c (compound c.model c.sizes line o x y)
 unfolding compound
-compound_made c m line o x y fx fy =
+compound_made c line o x y fx fy =
     after_holds (PlaceFits c) (OperandFits c) (modifiable line x) _ (modifiable_fits c line x fx) (λ p fp.
-    after_holds (RvalueFits c) (OperandFits c) (valued line y) _ (valued_fits c line y fy) (λ v fv. compound_by_made c m line (arithmetic_of o) p v fp fv))
+    after_holds (RvalueFits c) (OperandFits c) (valued line y) _ (valued_fits c line y fy) (λ v fv. compound_by_made c line (arithmetic_of o) p v fp fv))
 
-pub stepped_made : (c : Around) (m : Machdep) (line : ℕ) (up prefix : Bool) (x : Operand) → OperandFits c x → Made c (stepped m c.sizes line up prefix x)
+pub stepped_made : (c : Around) (line : ℕ) (up prefix : Bool) (x : Operand) → OperandFits c x → Made c (stepped c.model c.sizes line up prefix x)
 unfolding stepped
-stepped_made c m line up prefix x fx =
+stepped_made c line up prefix x fx =
     after_holds (PlaceFits c) (OperandFits c) (modifiable line x) _ (modifiable_fits c line x fx)
-    (λ p fp. updated_made c m line (step_operator up) (step_form prefix) p _ fp (number_fits c kind.Int (pos 1) line).0)
+    (λ p fp. updated_made c line (step_operator up) (step_form prefix) p _ fp (number_fits c kind.Int (pos 1) line).0)
 
 -- ---- casts
 

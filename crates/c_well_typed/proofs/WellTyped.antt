@@ -126,7 +126,7 @@ unary_made c line un.Not x fits = not_made c c.model line x fits
 assign_made : (c : Around) (line : ℕ) (o : Option BinOp) (x y : Operand) → OperandFits c x → OperandFits c y → Made c (assign c.model c.sizes line o x y)
 unfolding assign
 assign_made c line None x y fx fy = assigned_made c c.model line x y fx fy
-assign_made c line (Some o) x y fx fy = compound_made c c.model line o x y fx fy
+assign_made c line (Some o) x y fx fy = compound_made c line o x y fx fy
 
 cast_to_type_made : (c : Around) (line : ℕ) (type : e.CType) (r : Option Resolved) (x : Operand) → OperandFits c x
     → Made c (cast_to_type c.model c.scope line type r x)
@@ -194,7 +194,7 @@ mutual
       after_holds (OperandFits c) (OperandFits c) (typed c a) _ (typed_made c a) (λ x fx.
       after_holds (OperandFits c) (OperandFits c) (typed c b) _ (typed_made c b) (λ y fy. assign_made c line o x y fx fy))
   typed_made c (e.step line up prefix a) =
-      after_holds (OperandFits c) (OperandFits c) (typed c a) _ (typed_made c a) (λ x fx. stepped_made c c.model line up prefix x fx)
+      after_holds (OperandFits c) (OperandFits c) (typed c a) _ (typed_made c a) (λ x fx. stepped_made c line up prefix x fx)
   typed_made c (e.call line f args) =
       call_by_made c line (count_of args) (λ params. typed_for c params args) (typed_all c args)
       (find c.scope f) (λ types same. arguments_made c types args same)

@@ -2,7 +2,8 @@
 use Rattle.std.specs.Prelude.{◌≡◌, IsTrue, ℕ, Bool, true, false, List, [], ◌∷◌, Some, None, slice_get, ◌⊎◌}
 use Rattle.wp_base.specs.declared.kinds.Kind.{Kind}
 use Rattle.wp_base.specs.declared.kinds.Kind.TheVariants as kind
-use Rattle.c_kinds.specs.Conversions.{promote}
+use Rattle.c_kinds.specs.declared.models.Machdep.{Machdep}
+use Rattle.c_kinds.specs.Conversions.{promote, common}
 use Rattle.c_kinds.specs.Models.{difference_kind}
 use Rattle.typed_prog.specs.declared.types.CoreType.{CoreType}
 use Rattle.typed_prog.specs.declared.operators.Arithmetic.{Arithmetic}
@@ -151,16 +152,18 @@ OpFits c op.Cast types type = OfOne types (λ a. (IsInteger a × IsInteger type)
 
 -- ---- what changes the state
 
--- An update computes in one kind, and converts back (6.5.16.2p3); so the second operand is as for the operator.
-pub record IsIntegerUpdate (o : Arithmetic) (computed : Kind) (a type : CoreType) : Type 0 where
+-- An update computes in one kind, and converts back (6.5.16.2p3): in the kind that the object's kind and that of the second operand have in common, and for
+-- a shift in the promoted kind of the object. So the second operand is as for the operator.
+pub record IsIntegerUpdate (m : Machdep) (o : Arithmetic) (computed : Kind) (a type : CoreType) : Type 0 where
   pub of : Kind
   pub integer : type ≡ of_kind of
   pub promoted : IsPromoted computed
   pub shifted : is_shift o ≡ true → computed ≡ promote of
+  pub joined : is_shift o ≡ false → (second_kind : Kind) × (computed ≡ common m of second_kind)
   pub second : SecondFits (is_shift o) computed a
 
 abbrev pub ChangeFits : Around → Change → (value type : CoreType) → Type 0
-ChangeFits c (change.Integer o computed) a type = IsIntegerUpdate o computed a type
+ChangeFits c (change.Integer o computed) a type = IsIntegerUpdate c.model o computed a type
 ChangeFits c (change.Pointer minus size) a type = IsMoved c size type a type
 
 -- each argument has the type of its parameter (6.5.2.2p2, p7)

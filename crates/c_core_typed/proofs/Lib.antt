@@ -1,0 +1,12 @@
+pub mod Given
+pub mod Numbers
+pub mod Good
+pub mod Expressions
+pub mod Named
+pub mod Growing
+pub mod FullValues
+pub mod Declaring
+pub mod Statements
+pub mod Params
+pub mod Defining
+pub mod Programs

@@ -1,0 +1,6 @@
+pub mod Operands
+pub mod Operators
+pub mod Leaves
+pub mod Expressions
+pub mod InScope
+pub mod Only

@@ -1,0 +1,4 @@
+pub mod Names
+pub mod Globals
+pub mod Functions
+pub mod Files

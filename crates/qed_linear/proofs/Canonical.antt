@@ -1,16 +1,16 @@
 -- Linear forms in order: sums and products keep them so.
 use Rattle.std.proofs.Common.{◌≡◌, Bool, true, false, ◌&&◌, cond, ℤ, pos, negsuc, ◌+ℤ◌, ◌*ℤ◌, Ordering, Less, Equal, Greater, List, [], ◌∷◌, ◌++◌, map, refl, sym, ◌∙◌, ap, subst, arith}
 use Rattle.std.proofs.lemmas.Int.{ints}
-use Rattle.std.proofs.Math.IntN.{*ℤ-zero, *ℤ-one, one}
+use Rattle.std.proofs.Math.IntN.{*ℤ_comm, *ℤ-zero, *ℤ-one, one}
 use Rattle.std.specs.Prelude.{Some, None}
 use Rattle.qed_terms.specs.declared.head.Head.{Head}
 use Rattle.qed_terms.specs.declared.head.Head.TheVariants as h
 use Rattle.qed_terms.specs.declared.head.TermOp.{TermOp}
 use Rattle.qed_terms.specs.declared.head.TermOp.TheVariants as op
-use Rattle.qed_terms.specs.Tree.{Tree, num}
+use Rattle.qed_terms.specs.Tree.{Tree, head_of, num}
 use Rattle.qed_terms.specs.Operators.{is_zero}
 use Rattle.qed_terms.specs.Order.{tree_cmp}
-use Rattle.qed_linear.specs.Linear.{fits, Part, Lin, part, lin, number, atom_lin, is_number, at_order, cons_nonzero, add_part, add_parts, add, add_all, scale_parts, scale, subtract, parts_fit, checked, op_form, head_form, or_atom, to_lin}
+use Rattle.qed_linear.specs.Linear.{fits, Part, Lin, part, lin, number, atom_lin, is_number, at_order, cons_nonzero, add_part, add_parts, add, add_all, scale_parts, scale, subtract, is_integer, parts_fit, checked, number_product, other_factors, fitted, product_of, product_form, op_form, head_form, or_atom, to_lin}
 use Rattle.qed_linear.proofs.Facts.{and_left, and_right, zero_is, no_zero}
 use Rattle.std.specs.Ordering.{ordering_reverse}
 use Rattle.qed_terms.proofs.Total.{tree_total}
@@ -82,9 +82,13 @@ checked_is f p c = ap (λ b. cond (b && fits (f.constant)) (Some f) None) p ∙ 
 pub product_is : (p : Part) → to_lin (p.atom) ≡ atom_lin (p.atom) → is_zero (p.times) ≡ false → parts_fit (p ∷ []) ≡ true → op_form op.Mul (number (p.times) ∷ to_lin (p.atom) ∷ []) ≡ Some (single p)
 unfolding one
 product_is p i z f =
+    let c : pos 1 *ℤ p.times ≡ p.times = *ℤ_comm (pos 1) (p.times) ∙ *ℤ-one (p.times) in
     let e : p.times *ℤ pos 1 ≡ p.times = *ℤ-one (p.times) in
     let e0 : p.times *ℤ pos 0 ≡ pos 0 = *ℤ-zero (p.times) in
+    let fits_times = and_left (fits (p.times)) (is_integer (head_of (p.atom))) (and_left (fits (p.times) && is_integer (head_of (p.atom))) true f) in
     ap (λ g. op_form op.Mul (number (p.times) ∷ g ∷ [])) i
+    ∙ ap (λ n. product_of (fitted n) (atom_lin (p.atom) ∷ [])) c
+    ∙ ap (λ b. product_of (cond b (Some (p.times)) None) (atom_lin (p.atom) ∷ [])) fits_times
     ∙ ap (λ b. checked (cond b (number (pos 0)) (lin (part (p.atom) (p.times *ℤ pos 1) ∷ []) (p.times *ℤ pos 0)))) z
     ∙ (λ i. checked (lin (part (p.atom) (e i) ∷ []) (e0 i)))
     ∙ checked_is (single p) f fits_zero
@@ -164,15 +168,37 @@ module _ (IsAtom : Tree → Type 0) where
   add_all_canonical [] g = tt
   add_all_canonical (f ∷ fs) g = add_parts_canonical (f.parts) ((add_all fs).parts) g.0 (add_all_canonical fs g.1)
 
+  others_canonical : (fs : List Lin) → FormsOver fs → FormsOver (other_factors fs)
+  others_canonical [] k = tt
+  others_canonical (f ∷ fs) k = go (is_number f) (others_canonical fs k.1)
+    where
+      go : (b : Bool) → FormsOver (other_factors fs) → FormsOver (cond b (other_factors fs) (f ∷ other_factors fs))
+      go true r = r
+      go false r = (k.0, r)
+
+  number_canonical : (c : ℤ) → fits c ≡ true → FormOver (number c)
+  number_canonical c k = (tt, refl, k)
+
+  product_canonical : (c : ℤ) (gs : List Lin) (g : Lin) → fits c ≡ true → FormsOver gs → product_of (Some c) gs ≡ Some g → FormOver g
+  product_canonical c [] g k h e = let same : number c ≡ g = cc in subst FormOver same (number_canonical c k)
+  product_canonical c (f ∷ []) g k h e = (checked_canonical (scale c f) g (scale_canonical c f h.0) e).0
+  product_canonical c (f ∷ f' ∷ fs) g k h e = go (is_zero c) e
+    where
+      go : (b : Bool) → cond b (Some (number (pos 0))) None ≡ Some g → FormOver g
+      go true q = let same : number (pos 0) ≡ g = cc in subst FormOver same (number_canonical (pos 0) fits_zero)
+      go false q = absurd cc
+
+  product_form_canonical : (fs : List Lin) (g : Lin) → FormsOver fs → product_form fs ≡ Some g → FormOver g
+  product_form_canonical fs g k e = go (fits (number_product fs)) refl e
+    where
+      go : (b : Bool) → fits (number_product fs) ≡ b → product_of (cond b (Some (number_product fs)) None) (other_factors fs) ≡ Some g → FormOver g
+      go true f q = product_canonical (number_product fs) (other_factors fs) g f (others_canonical fs k) q
+      go false f q = absurd cc
+
   op_form_canonical : (o : TermOp) (fs : List Lin) (g : Lin) → FormsOver fs → op_form o fs ≡ Some g → FormOver g
   op_form_canonical op.Add fs g k e = (checked_canonical (add_all fs) g (add_all_canonical fs k) e).0
   op_form_canonical op.Sub (f ∷ f' ∷ []) g k e = (checked_canonical (subtract f f') g (subtract_canonical f f' k.0 k.1.0) e).0
-  op_form_canonical op.Mul (f ∷ f' ∷ []) g k e = go (is_number f) (is_number f') e
-    where
-      go : (b b' : Bool) → cond b (checked (scale (f.constant) f')) (cond b' (checked (scale (f'.constant) f)) None) ≡ Some g → FormOver g
-      go true b' r = (checked_canonical (scale (f.constant) f') g (scale_canonical (f.constant) f' k.1.0) r).0
-      go false true r = (checked_canonical (scale (f'.constant) f) g (scale_canonical (f'.constant) f k.0) r).0
-      go false false r = absurd cc
+  op_form_canonical op.Mul fs g k e = product_form_canonical fs g k e
   op_form_canonical op.Neg (f ∷ []) g k e = (checked_canonical (scale (negsuc 0) f) g (scale_canonical (negsuc 0) f k.0) e).0
   op_form_canonical o fs g k e = absurd cc
 

@@ -1,6 +1,7 @@
 pub mod Built
 pub mod Canonical
 pub mod Divisors
+pub mod Factors
 pub mod Facts
 pub mod Fitting
 pub mod OwnForms

@@ -1,5 +1,5 @@
 -- The forms of terms by their variants.
-use Rattle.std.proofs.Common.{◌≡◌, ◌<◌, true, false, cond, ℤ, List, [], ◌∷◌, map, length, refl, sym, ◌∙◌, ap, arith, FitsSigned}
+use Rattle.std.proofs.Common.{◌≡◌, ◌<◌, true, false, ℤ, List, [], ◌∷◌, map, length, refl, sym, ◌∙◌, ap, arith, FitsSigned}
 use Rattle.std.specs.Prelude.{Option, None}
 use Rattle.std.specs.Int.{w128}
 use Rattle.qed_terms.specs.declared.head.TermOp.{TermOp}
@@ -9,7 +9,7 @@ use Rattle.qed_terms.specs.Tree.{trees_of}
 use Rattle.qed_terms.specs.View.{term_tree}
 use Rattle.qed_terms.proofs.Equations.{term_tree-Num, term_tree-Op}
 use Rattle.qed_linear.specs.declared.forms.LinPart.{LinPart}
-use Rattle.qed_linear.specs.Linear.{Lin, number, is_number, is_empty, checked, scale, product_form, op_form, or_atom, to_lin, to_lins}
+use Rattle.qed_linear.specs.Linear.{Lin, number, is_empty, op_form, or_atom, to_lin, to_lins}
 use Rattle.qed_linear.specs.View.{parts_of}
 use Rattle.qed_linear.proofs.Canonical.{num_form}
 use Rattle.qed_linear.proofs.SumSteps.{fits_from}
@@ -21,12 +21,6 @@ some_parts (x ∷ xs) k = refl
 pub no_parts : (xs : List LinPart) → length xs ≡ 0 → is_empty (parts_of xs) ≡ true
 no_parts [] k = refl
 no_parts (x ∷ xs) k = absurd (omega arith)
-
-pub product_first : (f g : Lin) → is_number f ≡ true → product_form f g ≡ checked (scale (f.constant) g)
-product_first f g a = ap (λ c. cond c (checked (scale (f.constant) g)) (cond (is_number g) (checked (scale (g.constant) f)) None)) a
-
-pub product_second : (f g : Lin) → is_number f ≡ false → is_number g ≡ true → product_form f g ≡ checked (scale (g.constant) f)
-product_second f g a b = ap (λ c. cond c (checked (scale (f.constant) g)) (cond (is_number g) (checked (scale (g.constant) f)) None)) a ∙ ap (λ c. cond c (checked (scale (g.constant) f)) None) b
 
 pub to_lin_num : (z : ℤ) → FitsSigned w128 z → to_lin (term_tree (t.Num z)) ≡ number z
 to_lin_num z f = ap to_lin (term_tree-Num z) ∙ num_form z (fits_from z f)

@@ -11,10 +11,10 @@ use Rattle.qed_terms.specs.declared.head.Head.TheVariants as h
 use Rattle.qed_terms.specs.declared.head.TermOp.{TermOp}
 use Rattle.qed_terms.specs.declared.head.TermOp.TheVariants as op
 use Rattle.qed_terms.specs.Tree.{Tree, node, Trees, stop, more, trees_of, two, num}
-use Rattle.qed_terms.specs.Operators.{is_zero, is_equal, total}
+use Rattle.qed_terms.specs.Operators.{is_zero, is_equal, total, product}
 use Rattle.qed_terms.specs.Meaning.{World, Values, whole, value, meanings, term_value}
 use Rattle.qed_terms.specs.Order.{tree_cmp}
-use Rattle.qed_linear.specs.Linear.{fits, Part, Lin, part, lin, number, is_number, part_tree, constant_trees, sum_tree, of_lin, at_order, cons_nonzero, add_part, add_parts, add_all, scale_parts, scale, subtract, parts_fit, checked, op_form, head_form, or_atom, to_lin, to_lins, common_divisor, divide_parts, rounded_up, divides, tighten, divide_exact, make_lead_positive, lead_is_negative, unwrap_or}
+use Rattle.qed_linear.specs.Linear.{fits, Part, Lin, part, lin, number, is_number, part_tree, constant_trees, sum_tree, of_lin, at_order, cons_nonzero, add_part, add_parts, add_all, scale_parts, scale, subtract, parts_fit, checked, number_product, other_factors, product_of, product_form, op_form, head_form, or_atom, to_lin, to_lins, common_divisor, divide_parts, rounded_up, divides, tighten, divide_exact, make_lead_positive, lead_is_negative, unwrap_or}
 use Rattle.qed_linear.proofs.Facts.{zero_is, equal_is}
 use Rattle.qed_terms.proofs.Total.{tree_exact}
 use Rattle.qed_linear.proofs.Ring.{sum_times, times_sum, product_times, times_one, one_times}
@@ -104,26 +104,45 @@ module _ (world : World) (env : Values) where
   abbrev kids_value : Trees → List ℤ
   kids_value ts = map whole (meanings world env ts)
 
+  split_product : (fs : List Lin) → product (map value_of fs) ≡ number_product fs *ℤ product (map value_of (other_factors fs))
+  split_product [] = refl
+  split_product (f ∷ fs) = go (is_number f) refl (split_product fs)
+    where
+      turn : (a n q : ℤ) → a *ℤ (n *ℤ q) ≡ n *ℤ (a *ℤ q)
+      turn a n q = sym (product_times a n q) ∙ ap (λ x. x *ℤ q) (*ℤ_comm a n) ∙ product_times n a q
+
+      go : (b : Bool) → is_number f ≡ b → product (map value_of fs) ≡ number_product fs *ℤ product (map value_of (other_factors fs))
+          → value_of f *ℤ product (map value_of fs) ≡ cond b (number_product fs *ℤ f.constant) (number_product fs) *ℤ product (map value_of (cond b (other_factors fs) (f ∷ other_factors fs)))
+      go true e r =
+          ap (λ x. value_of f *ℤ x) r ∙ turn (value_of f) (number_product fs) (product (map value_of (other_factors fs)))
+          ∙ ap (λ x. number_product fs *ℤ (x *ℤ product (map value_of (other_factors fs)))) (number_value f e) ∙ sym (product_times (number_product fs) (f.constant) (product (map value_of (other_factors fs))))
+      go false e r = ap (λ x. value_of f *ℤ x) r ∙ turn (value_of f) (number_product fs) (product (map value_of (other_factors fs)))
+
+  product_of_value : (c : ℤ) (gs : List Lin) (g : Lin) → product_of (Some c) gs ≡ Some g → value_of g ≡ c *ℤ product (map value_of gs)
+  product_of_value c [] g k = let same : number c ≡ g = cc in ap value_of (sym same) ∙ number_value (number c) refl ∙ sym (times_one c)
+  product_of_value c (f ∷ []) g k = checked_value (scale c f) g k ∙ scale_value c f ∙ ap (λ x. c *ℤ x) (sym (times_one (value_of f)))
+  product_of_value c (f ∷ f' ∷ fs) g k = go (is_zero c) refl k
+    where
+      go : (b : Bool) → is_zero c ≡ b → cond b (Some (number (pos 0))) None ≡ Some g → value_of g ≡ c *ℤ product (map value_of (f ∷ f' ∷ fs))
+      go true e q =
+          let same : number (pos 0) ≡ g = cc in
+          ap value_of (sym same) ∙ number_value (number (pos 0)) refl ∙ sym (ap (λ x. x *ℤ product (map value_of (f ∷ f' ∷ fs))) (zero_is c e) ∙ zero-*ℤ (product (map value_of (f ∷ f' ∷ fs))))
+      go false e q = absurd cc
+
+  product_form_value : (fs : List Lin) (g : Lin) → product_form fs ≡ Some g → value_of g ≡ product (map value_of fs)
+  product_form_value fs g k = go (fits (number_product fs)) k
+    where
+      go : (b : Bool) → product_of (cond b (Some (number_product fs)) None) (other_factors fs) ≡ Some g → value_of g ≡ product (map value_of fs)
+      go true q = product_of_value (number_product fs) (other_factors fs) g q ∙ sym (split_product fs)
+      go false q = absurd cc
+
   op_form_value : (o : TermOp) (ts : Trees) (g : Lin) → map value_of (to_lins ts) ≡ kids_value ts → op_form o (to_lins ts) ≡ Some g → value_of g ≡ whole (term_value world o (meanings world env ts))
   op_form_value op.Add ts g same k = checked_value (add_all (to_lins ts)) g k ∙ add_all_value (to_lins ts) ∙ ap total same
   op_form_value op.Sub (more t (more u stop)) g same k =
       let a : value_of (to_lin t) ≡ V t = cc in
       let b : value_of (to_lin u) ≡ V u = cc in
       checked_value (subtract (to_lin t) (to_lin u)) g k ∙ subtract_value (to_lin t) (to_lin u) ∙ (λ i. a i -ℤ b i)
-  op_form_value op.Mul (more t (more u stop)) g same k =
-      let a : value_of (to_lin t) ≡ V t = cc in
-      let b : value_of (to_lin u) ≡ V u = cc in
-      go (is_number (to_lin t)) (is_number (to_lin u)) refl refl a b k
-    where
-      go : (c c' : Bool) → is_number (to_lin t) ≡ c → is_number (to_lin u) ≡ c' → value_of (to_lin t) ≡ V t → value_of (to_lin u) ≡ V u
-          → cond c (checked (scale ((to_lin t).constant) (to_lin u))) (cond c' (checked (scale ((to_lin u).constant) (to_lin t))) None) ≡ Some g → value_of g ≡ V t *ℤ (V u *ℤ pos 1)
-      go true c' n n' a b r =
-          checked_value _ g r ∙ scale_value ((to_lin t).constant) (to_lin u) ∙ ap (λ z. z *ℤ value_of (to_lin u)) (sym (number_value (to_lin t) n) ∙ a)
-          ∙ ap (λ z. V t *ℤ z) (b ∙ sym (times_one (V u)))
-      go false true n n' a b r =
-          checked_value _ g r ∙ scale_value ((to_lin u).constant) (to_lin t) ∙ ap (λ z. z *ℤ value_of (to_lin t)) (sym (number_value (to_lin u) n') ∙ b)
-          ∙ ap (λ z. V u *ℤ z) a ∙ *ℤ_comm (V u) (V t) ∙ ap (λ z. V t *ℤ z) (sym (times_one (V u)))
-      go false false n n' a b r = absurd cc
+  op_form_value op.Mul ts g same k = product_form_value (to_lins ts) g k ∙ ap product same
   op_form_value op.Neg (more t stop) g same k =
       let a : value_of (to_lin t) ≡ V t = cc in
       omega (arith, ints, a, checked_value (scale (negsuc 0) (to_lin t)) g k, scale_value (negsuc 0) (to_lin t))

@@ -117,13 +117,33 @@ parts_fit (p ∷ ps) = (fits (p.times) && is_integer (head_of (p.atom))) && part
 abbrev pub checked : Lin → Option Lin
 checked f = if parts_fit (f.parts) && fits (f.constant) then Some f else None
 
-abbrev pub product_form : Lin → Lin → Option Lin
-product_form f g = if is_number f then checked (scale (f.constant) g) else (if is_number g then checked (scale (g.constant) f) else None)
+-- the numbers among the factors, multiplied
+abbrev pub number_product : List Lin → ℤ
+number_product [] = pos 1
+number_product (f ∷ fs) = if is_number f then number_product fs *ℤ f.constant else number_product fs
+
+abbrev pub other_factors : List Lin → List Lin
+other_factors [] = []
+other_factors (f ∷ fs) = if is_number f then other_factors fs else f ∷ other_factors fs
+
+-- the number, where it fits 128 bits
+abbrev pub fitted : ℤ → Option ℤ
+fitted z = if fits z then Some z else None
+
+-- a number times these: a multiple of one of them, and 0 of any where the number is 0
+abbrev pub product_of : Option ℤ → List Lin → Option Lin
+product_of None gs = None
+product_of (Some c) [] = Some (number c)
+product_of (Some c) (g ∷ []) = checked (scale c g)
+product_of (Some c) (g ∷ h ∷ gs) = if is_zero c then Some (number (pos 0)) else None
+
+abbrev pub product_form : List Lin → Option Lin
+product_form fs = product_of (fitted (number_product fs)) (other_factors fs)
 
 abbrev pub op_form : TermOp → List Lin → Option Lin
 op_form op.Add fs = checked (add_all fs)
 op_form op.Sub (f ∷ g ∷ []) = checked (subtract f g)
-op_form op.Mul (f ∷ g ∷ []) = product_form f g
+op_form op.Mul fs = product_form fs
 op_form op.Neg (f ∷ []) = checked (scale (negsuc 0) f)
 op_form o fs = None
 

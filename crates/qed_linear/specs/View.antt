@@ -1,5 +1,5 @@
 -- The forms and the sums that the program holds, as plain ones.
-use Rattle.std.specs.Prelude.{◌≡◌, ℕ, ◌+◌, slice_index_or, Bool, true, false, ℤ, pos, negsuc, ◌+ℤ◌, ◌*ℤ◌, if◌then◌else◌, List, [], ◌∷◌, ◌++◌, map, take, drop, option_map, Option, Some, None, Result, Ok, Err}
+use Rattle.std.specs.Prelude.{◌≡◌, ℕ, ◌+◌, ◌^◌, ◌≤◌, slice_index_or, unsigned_abs, Bool, true, false, ℤ, pos, negsuc, ◌+ℤ◌, ◌*ℤ◌, if◌then◌else◌, List, [], ◌∷◌, ◌++◌, map, take, drop, option_map, Option, Some, None, Result, Ok, Err}
 use Rattle.qed_terms.specs.View.{term_tree}
 use Rattle.qed_linear.specs.declared.wide.Wide.{Wide}
 use Rattle.qed_linear.specs.declared.forms.LinPart.{LinPart}
@@ -7,6 +7,10 @@ use Rattle.qed_linear.specs.declared.forms.LinForm.{LinForm}
 use Rattle.qed_linear.specs.declared.forms.LinEnd.{LinEnd}
 use Rattle.qed_linear.specs.declared.forms.LinEnd.TheVariants as end
 use Rattle.wp_base.specs.declared.memory.NoMemory.{NoMemory}
+use Rattle.qed_linear.specs.declared.products.Product.{Product}
+use Rattle.qed_linear.specs.declared.products.Product.TheVariants as seen
+use Rattle.qed_linear.specs.declared.products.Others.{Others}
+use Rattle.qed_linear.specs.declared.products.Others.TheVariants as others
 use Rattle.qed_linear.specs.declared.sums.WidePart.{WidePart}
 use Rattle.qed_linear.specs.declared.sums.WideForm.{WideForm}
 use Rattle.qed_linear.specs.Linear.{fits, Part, Lin, part, lin, cons_nonzero, scale}
@@ -64,3 +68,24 @@ signed false f = f
 -- the part at this place, from 0, has that much more, and isn't kept where it is then 0
 abbrev pub IsAddedAt : List WidePart → ℕ → ℤ → List WidePart → Type 0
 IsAddedAt ps i c qs = (p : WidePart) → p ≡ slice_index_or ps i p → wide_parts qs ≡ wide_parts (take i ps) ++ cons_nonzero (term_tree p.atom) (c +ℤ wide_value p.times) (wide_parts (drop (i + 1) ps))
+
+-- ---- products
+
+-- a number by its sign and its size
+abbrev pub sized : (negative : Bool) → ℕ → ℤ
+sized true n = negsuc 0 *ℤ pos n
+sized false n = pos n
+
+abbrev pub IsProduct : Product → ℤ → Type 0
+IsProduct (seen.Within negative size) z = z ≡ sized negative size
+IsProduct seen.Beyond z = 2 ^ 128 ≤ unsigned_abs z
+
+abbrev pub are_more : List Lin → Bool
+are_more [] = false
+are_more (f ∷ []) = false
+are_more (f ∷ g ∷ fs) = true
+
+abbrev pub AreOthers : Others → List Lin → Type 0
+AreOthers others.None gs = gs ≡ []
+AreOthers (others.One f) gs = gs ≡ lin_of f.now ∷ []
+AreOthers others.More gs = are_more gs ≡ true

@@ -4,6 +4,7 @@
 mod calls;
 mod divide;
 mod forms;
+mod products;
 mod sums;
 mod terms;
 mod wide;

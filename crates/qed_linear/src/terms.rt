@@ -3,11 +3,12 @@ ghost use Rattle.std.specs.Prelude.{◌≡◌, map, option_map, IfOk};
 ghost use Rattle.qed_terms.specs.View.{term_tree};
 ghost use Rattle.qed_terms.specs.declared.head.Head.TheVariants as h;
 ghost use Rattle.qed_terms.specs.declared.head.TermOp.TheVariants as op;
-ghost use Rattle.qed_linear.specs.Linear.{part_tree, sum_tree, of_lin, product_form, op_form, to_lin, is_linear, own_form};
+ghost use Rattle.qed_linear.specs.Linear.{part_tree, sum_tree, of_lin, op_form, to_lin, is_linear, own_form};
 ghost use Rattle.qed_linear.specs.View.{part_of, parts_of, lin_of};
 
 use crate::forms::{LinForm, LinPart, atom, number};
-use crate::sums::{add_all, negate, scaled, subtract};
+use crate::products::product_form;
+use crate::sums::{add_all, negate, subtract};
 use qed_terms::{Term, TermOp};
 use std::alloc::Global;
 use wp_base::{List, NoMemory};
@@ -69,27 +70,6 @@ fn sub_form(alloc: Global, forms: &[LinForm]) -> Result<Option<LinForm>, NoMemor
     }
 }
 
-fn product_form(alloc: Global, left: &LinForm, right: &LinForm) -> Result<Option<LinForm>, NoMemory>
-    ensures { IfOk result (λ form. option_map lin_of form ≡ product_form (lin_of left.now) (lin_of right.now)) }
-{
-    if left.parts.is_empty() {
-        return scaled(alloc, left.constant, right);
-    }
-    if right.parts.is_empty() {
-        return scaled(alloc, right.constant, left);
-    }
-    Ok(None)
-}
-
-fn mul_form(alloc: Global, forms: &[LinForm]) -> Result<Option<LinForm>, NoMemory>
-    ensures { IfOk result (λ form. option_map lin_of form ≡ op_form op.Mul (map lin_of forms.now)) }
-{
-    match forms {
-        [left, right] => product_form(alloc, left, right),
-        _ => Ok(None),
-    }
-}
-
 fn neg_form(alloc: Global, forms: &[LinForm]) -> Result<Option<LinForm>, NoMemory>
     ensures { IfOk result (λ form. option_map lin_of form ≡ op_form op.Neg (map lin_of forms.now)) }
 {
@@ -117,7 +97,7 @@ pub fn op_form(alloc: Global, op: &TermOp, kids: &List<Term>) -> Result<Option<L
         }
         TermOp::Mul => {
             let forms = forms_of(alloc, kids)?;
-            mul_form(alloc, forms.as_slice())
+            product_form(alloc, forms.as_slice())
         }
         TermOp::Neg => {
             let forms = forms_of(alloc, kids)?;

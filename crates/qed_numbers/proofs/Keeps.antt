@@ -1,5 +1,5 @@
 -- Each rule keeps the meaning.
-use Rattle.std.proofs.Common.{◌≡◌, ◌^◌, inl, inr, Bool, true, false, ◌&&◌, ◌||◌, cond, ℤ, pos, ◌*ℤ◌, List, [], ◌∷◌, refl, sym, ◌∙◌, ap, rules}
+use Rattle.std.proofs.Common.{◌≡◌, ℕ, ◌^◌, ◌==◌, eqb-true, inl, inr, Bool, true, false, ◌&&◌, ◌||◌, cond, ℤ, pos, ◌*ℤ◌, List, [], ◌∷◌, refl, sym, ◌∙◌, ap, rules}
 use Rattle.std.specs.Prelude.{Option, Some, None, nat_le}
 use Rattle.wp_base.specs.Blocks.{to_nat}
 use denote.Enum.Bare.{same_true}
@@ -17,7 +17,7 @@ use Rattle.qed_linear.specs.Linear.{is_integer}
 use Rattle.qed_linear.proofs.Facts.{equal_is}
 use Rattle.qed_numbers.specs.Numbers as spec
 use Rattle.qed_numbers.specs.Numbers.{Rule, first_of_rules, number_at, is_that, is_num, zero_tree, integer_where, of_one, of_two, fitted, as_num, of_numbers, is_of_one_width, converted, is_converted, power_of_two, power_by, times_number, shifted, number_rules, number_step}
-use Rattle.qed_numbers.specs.Laws.{NumbersKeepMeaning}
+use Rattle.qed_numbers.specs.Laws.{NumbersKeepMeaning, LongKeepsMeaning}
 use Rattle.qed_numbers.proofs.Tests.{then_some_is, either, both_so, or_either, as_num_is, fitted_back, of_one_back, of_two_back}
 use Rattle.qed_numbers.proofs.Operators.{quotient_by_one, remainder_by_one, quotient_of_zero, remainder_of_zero, right_by_zero, left_is_product, both_with_zero, zero_with_both, either_with_zero, zero_with_either, one_with_zero, zero_with_one, same_width, converted_again}
 
@@ -33,7 +33,7 @@ module _ (world : World) (env : Values) where
 
   -- ---- what a kid means
 
-  integer_whole : (t : Tree) → is_integer (head_of t) ≡ true → M t ≡ Whole (V t)
+  pub integer_whole : (t : Tree) → is_integer (head_of t) ≡ true → M t ≡ Whole (V t)
   integer_whole (node (h.Num z) ts) k = refl
   integer_whole (node (h.Var x sort.Int) ts) k = refl
   integer_whole (node (h.Term op.Store) ts) k = absurd cc
@@ -120,6 +120,19 @@ module _ (world : World) (env : Values) where
       go true e q = one_number (convert 64 kind) t w q ∙ ap Whole (same_width world.long_bits kind (V t) e)
       go false e q = absurd cc
   keeps_conversion o ts w k = absurd cc
+
+  keeps_long : (n : ℕ) → world.long_bits ≡ n → Keeps (spec.long_rule n)
+  keeps_long n e (op.Wrap kind) (more t stop) w k = go (is_of_one_width kind) (n == 64) (n == 32) refl refl k
+    where
+      at : (m : ℕ) → n == m ≡ true → as_num (of_one (convert m kind) (number_at t)) ≡ Some w → M w ≡ Whole (convert world.long_bits kind (V t))
+      at m f q = one_number (convert m kind) t w q ∙ ap (λ b. Whole (convert b kind (V t))) (sym (e ∙ eqb-true n m f))
+
+      go : (x y z : Bool) → n == 64 ≡ y → n == 32 ≡ z → as_num (cond x None (cond y (of_one (convert 64 kind) (number_at t)) (cond z (of_one (convert 32 kind) (number_at t)) None))) ≡ Some w → M w ≡ Whole (convert world.long_bits kind (V t))
+      go true y z f g q = absurd cc
+      go false true z f g q = at 64 f q
+      go false false true f g q = at 32 g q
+      go false false false f g q = absurd cc
+  keeps_long n e o ts w k = absurd cc
 
   converted_value : (kind : Kind) (t : Tree) → is_converted kind t ≡ true → M t ≡ Whole (convert world.long_bits kind (V t))
   converted_value kind (node (h.Term (op.Wrap l)) (more s stop)) k =
@@ -212,6 +225,9 @@ module _ (world : World) (env : Values) where
 
   pub step_keeps : (o : TermOp) (ts : Trees) (w : Tree) → number_step (h.Term o) ts ≡ Some w → M w ≡ M (node (h.Term o) ts)
   step_keeps o ts w k = first_keeps number_rules all_keep o ts w k
+
+pub long_keeps : LongKeepsMeaning
+long_keeps n o ts w k world env e = keeps_long world env n e o ts w k
 
 pub numbers_keep : NumbersKeepMeaning
 numbers_keep o ts w k world env = step_keeps world env o ts w k

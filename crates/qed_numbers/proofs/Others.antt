@@ -1,13 +1,14 @@
 -- Operators by how many terms they are over.
-use Rattle.std.proofs.Common.{◌≡◌, List, [], ◌∷◌, map, length, get_or, refl, sym, ap, arith}
+use Rattle.std.proofs.Common.{◌≡◌, ℕ, List, [], ◌∷◌, map, length, get_or, refl, sym, ◌∙◌, ap, arith}
 use Rattle.std.specs.Prelude.{None}
+use Rattle.wp_base.specs.declared.kinds.Kind.{Kind}
 use Rattle.qed_terms.specs.declared.head.Head.TheVariants as h
 use Rattle.qed_terms.specs.declared.head.TermOp.{TermOp}
 use Rattle.qed_terms.specs.declared.head.TermOp.TheVariants as op
 use Rattle.qed_terms.specs.Tree.{Tree, Trees, stop, more, one, two, trees_of}
 use Rattle.qed_terms.specs.declared.term.Term.{Term}
 use Rattle.qed_terms.specs.View.{term_tree}
-use Rattle.qed_numbers.specs.Numbers.{number_step}
+use Rattle.qed_numbers.specs.Numbers.{number_step, long_rule}
 
 no_kid : (o : TermOp) → None ≡ number_step (h.Term o) stop
 no_kid op.Div = refl
@@ -49,3 +50,11 @@ two_is [] x y k p q = absurd (omega (arith, k))
 two_is (t ∷ []) x y k p q = absurd (omega (arith, k))
 two_is (t ∷ u ∷ []) x y k p q = λ i. two (term_tree (sym p i)) (term_tree (sym q i))
 two_is (t ∷ u ∷ v ∷ ts) x y k p q = absurd (omega (arith, k))
+
+not_one : (n : ℕ) (ts : List Term) → (length ts ≡ 1 → ⊥) → (k : Kind) → None ≡ long_rule n (h.Term (op.Wrap k)) (trees_of (map term_tree ts))
+not_one n [] l k = refl
+not_one n (t ∷ []) l k = absurd (l (omega arith))
+not_one n (t ∷ u ∷ ts) l k = refl
+
+pub long_of_one : (n : ℕ) (o : TermOp) (k : Kind) (ts : List Term) → o ≡ op.Wrap k → (length ts ≡ 1 → ⊥) → None ≡ long_rule n (h.Term o) (trees_of (map term_tree ts))
+long_of_one n o k ts e l = not_one n ts l k ∙ ap (λ x. long_rule n (h.Term x) (trees_of (map term_tree ts))) (sym e)

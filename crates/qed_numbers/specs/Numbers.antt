@@ -1,6 +1,6 @@
 -- The rules of the normal form at division, conversions, shifts and bit operators. Each says what becomes of a node whose kids are in
 -- normal form, where it changes the node.
-use Rattle.std.specs.Prelude.{◌^◌, nat_le, Bool, true, false, ◌&&◌, ◌||◌, if◌then◌else◌, ℤ, pos, List, [], ◌∷◌, Option, Some, None}
+use Rattle.std.specs.Prelude.{ℕ, ◌^◌, ◌==◌, nat_le, Bool, true, false, ◌&&◌, ◌||◌, if◌then◌else◌, ℤ, pos, List, [], ◌∷◌, Option, Some, None}
 use Rattle.wp_base.specs.declared.kinds.Kind.{Kind}
 use Rattle.wp_base.specs.declared.kinds.Kind.TheVariants as kind
 use Rattle.wp_base.specs.contracts.kinds.Kind.{the_type}
@@ -119,6 +119,15 @@ converted k a = if is_of_one_width k then of_one (convert 64 k) a else None
 abbrev pub conversion_rule : Rule
 conversion_rule (h.Term (op.Wrap k)) (more t stop) = as_num (converted k (number_at t))
 conversion_rule head ts = None
+
+-- a number converted to `long` or `unsigned long`, which have 32 or 64 bits
+abbrev pub long_number : (long_bits : ℕ) → Kind → Option ℤ → Option ℤ
+long_number n k a = if is_of_one_width k then None else (if n == 64 then of_one (convert 64 k) a else (if n == 32 then of_one (convert 32 k) a else None))
+
+-- a number, where the width of `long` is known
+abbrev pub long_rule : (long_bits : ℕ) → Rule
+long_rule n (h.Term (op.Wrap k)) (more t stop) = as_num (long_number n k (number_at t))
+long_rule n head ts = None
 
 abbrev pub is_conversion : Kind → TermOp → Bool
 is_conversion k (op.Wrap l) = sameb the_type l k

@@ -1,5 +1,5 @@
 // Laws of the rules, over plain trees.
-ghost use Rattle.qed_numbers.specs.Laws.{NumbersAnswer, NumbersKeepMeaning};
+ghost use Rattle.qed_numbers.specs.Laws.{LongKeepsMeaning, NumbersAnswer, NumbersKeepMeaning};
 
 /// A rule keeps the meaning.
 pub fn numbers_keep_meaning()
@@ -9,4 +9,9 @@ pub fn numbers_keep_meaning()
 /// A rule answers a number, a kid, or for a shift to the left a number times a kid.
 pub fn numbers_answer()
     ensures { NumbersAnswer }
+{}
+
+/// A conversion to `long` keeps the meaning where `long` is as wide.
+pub fn long_keeps_meaning()
+    ensures { LongKeepsMeaning }
 {}

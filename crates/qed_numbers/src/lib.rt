@@ -7,5 +7,5 @@ mod passes;
 mod terms;
 mod values;
 
-pub use laws::{numbers_answer, numbers_keep_meaning};
-pub use passes::number_step;
+pub use laws::{long_keeps_meaning, numbers_answer, numbers_keep_meaning};
+pub use passes::{long_step, number_step};

@@ -1,10 +1,10 @@
 // What the rules make of an operator over terms in normal form. Each function is a rule, or the rules of an operator in their order.
-ghost use Rattle.std.specs.Prelude.{◌≡◌, pos, Some, map, option_map, IfOk};
+ghost use Rattle.std.specs.Prelude.{◌≡◌, pos, Some, None, map, option_map, IfOk};
 ghost use Rattle.qed_terms.specs.Tree.{one, two, trees_of};
 ghost use Rattle.qed_terms.specs.View.{term_tree};
 ghost use Rattle.qed_terms.specs.declared.head.Head.TheVariants as h;
 ghost use Rattle.qed_terms.specs.declared.head.TermOp.TheVariants as op;
-ghost use Rattle.qed_numbers.specs.Numbers.{number_at, number_step, of_one, of_two, fitted, converted, power_by, is_of_one_width, is_num, integer_where, first_some};
+ghost use Rattle.qed_numbers.specs.Numbers.{number_at, number_step, long_number, long_rule, of_one, of_two, fitted, converted, power_by, is_of_one_width, is_num, integer_where, first_some};
 ghost use Rattle.qed_terms.specs.Operators as spec;
 
 use crate::bits::{both_bits, either_bit, one_bit, turned_bits};
@@ -101,6 +101,21 @@ fn converted(kind: Kind, number: Option<i128>) -> Option<i128>
         Some(number) if is_of_one_width(kind) => Some(convert(Machdep::X86_64, kind, number)),
         _ => None,
     }
+}
+
+fn long_number(long_bits: u8, kind: Kind, number: i128) -> Option<i128>
+    ensures { result ≡ long_number long_bits kind (Some number) }
+{
+    if is_of_one_width(kind) {
+        return None;
+    }
+    if long_bits == 64 {
+        return Some(convert(Machdep::X86_64, kind, number));
+    }
+    if long_bits == 32 {
+        return Some(convert(Machdep::X86_32, kind, number));
+    }
+    None
 }
 
 fn power_by(by: Option<i128>) -> Option<i128>
@@ -208,6 +223,16 @@ fn normal_turned_bits(term: &Term) -> Option<Term>
     as_num(turned_bits_of(number_at(term)))
 }
 
+// A conversion of a number to `long` or `unsigned long`.
+fn long_conversion(long_bits: u8, kind: Kind, term: &Term) -> Option<Term>
+    ensures { option_map term_tree result ≡ long_rule long_bits (h.Term (op.Wrap kind)) (one (term_tree term.now)) }
+{
+    match number_at(term) {
+        Some(number) => as_num(long_number(long_bits, kind, number)),
+        None => None,
+    }
+}
+
 // ---- all of them
 
 fn at_one(alloc: Global, op: &TermOp, term: &Term) -> Result<Option<Term>, NoMemory>
@@ -273,4 +298,36 @@ pub fn number_step(alloc: Global, op: &TermOp, kids: &[Term]) -> Result<Option<T
         return at_two(alloc, op, &kids[0], &kids[1]);
     }
     Ok(None)
+}
+
+/// What becomes of a conversion of a number to `long` or `unsigned long`, which have so many bits.
+pub fn long_step(long_bits: u8, op: &TermOp, kids: &[Term]) -> Option<Term>
+    ensures { option_map term_tree result ≡ long_rule long_bits (h.Term op.now) (trees_of (map term_tree kids.now)) }
+{
+    match op {
+        TermOp::Wrap(kind) => {
+            if kids.len() != 1 {
+                return None;
+            }
+            long_conversion(long_bits, *kind, &kids[0])
+        }
+        TermOp::Add
+        | TermOp::Sub
+        | TermOp::Mul
+        | TermOp::Neg
+        | TermOp::Div
+        | TermOp::Mod
+        | TermOp::ShiftLeft
+        | TermOp::ShiftRight
+        | TermOp::BitAnd
+        | TermOp::BitOr
+        | TermOp::BitXor
+        | TermOp::BitNot
+        | TermOp::Load
+        | TermOp::Count
+        | TermOp::Len
+        | TermOp::Store
+        | TermOp::Alloc(_)
+        | TermOp::Grow => None,
+    }
 }

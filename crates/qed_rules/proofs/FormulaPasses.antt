@@ -1,18 +1,19 @@
 -- The passes over formulas: the operands of `and` and `or` from an index on, and formulas by their variants.
-use Rattle.std.proofs.Common.{◌≡◌, ℕ, ◌+◌, ◌<◌, ◌≤◌, Bool, true, false, ◌||◌, cond, List, [], ◌∷◌, ◌++◌, map, length, take, drop, get_or, take-append-drop, refl, sym, ◌∙◌, ap, arith, subst}
+use Rattle.std.proofs.Common.{◌≡◌, ℕ, ◌+◌, ◌<◌, ◌≤◌, Bool, true, false, ◌||◌, ◌&&◌, cond, List, [], ◌∷◌, ◌++◌, map, length, take, drop, get_or, take-append-drop, refl, sym, ◌∙◌, ap, arith, subst}
+use Rattle.std.specs.Prelude.{Some}
 use Rattle.qed_terms.specs.declared.head.Head.TheVariants as h
-use Rattle.qed_terms.specs.declared.head.FormOp.{FormOp}
 use Rattle.qed_terms.specs.declared.term.Term.{Term}
 use Rattle.qed_terms.specs.declared.term.Formula.{Formula, Formula-F, roll-Formula, out-Formula, roll-out-Formula}
 use Rattle.qed_terms.specs.declared.term.Formula.TheVariants as f
-use Rattle.qed_terms.specs.Tree.{Tree, node, more, stop, trees_of, list_of, kids_in, head_of}
-use Rattle.qed_terms.specs.View.{term_tree, formula_tree}
+use Rattle.qed_terms.specs.Tree.{Tree, node, more, stop, trees_of, list_of, kids_in, head_of, not_of}
+use Rattle.qed_terms.specs.View.{formula_tree}
 use Rattle.qed_terms.proofs.Lists.{list_of-trees_of}
 use Rattle.qed_terms.proofs.Equations.{formula_tree-Rel, formula_tree-Not, formula_tree-And, formula_tree-Or, formula_tree-True, formula_tree-False, formula_tree-Imp, formula_tree-Iff, formula_tree-Forall, formula_tree-Exists}
-use Rattle.qed_rules.specs.Rules.{junction, is_junction, has, drop_repeats, is_formula}
-use Rattle.qed_rules.specs.Passes.{unwrap_single, normal_junction, normal_not, normal_nots, normal_node, normalise, normalise_all}
+use Rattle.qed_rules.specs.Rules.{junction, is_junction, has, drop_repeats, is_formula, nots, is_single_range, is_instance}
+use Rattle.qed_linear.specs.Linear.{is_integer}
+use Rattle.qed_substitution.specs.Substitution.{may_replace}
+use Rattle.qed_rules.specs.Passes.{unwrap_single, normal_junction, is_unquantified, are_unquantified, normal_not, normal_nots, turned}
 use Rattle.qed_linear.proofs.Places.{one_off, take_one, map_append}
-use Rattle.qed_rules.proofs.TermPasses.{normalise_all_of as normalise_all_of_terms}
 
 formula_core : (y : Formula-F Formula Term) → is_formula (head_of (formula_tree (roll-Formula y))) ≡ true
 formula_core Formula-F.True = ap (λ t. is_formula (head_of t)) (ap formula_tree f.rolls-True ∙ formula_tree-True)
@@ -80,15 +81,11 @@ operands_or xs x b e k =
     sym (ap (λ z. cond (is_junction b z) (list_of (kids_in z)) (z ∷ [])) (ap formula_tree e ∙ formula_tree-Or xs)
     ∙ ap (λ c. cond (is_junction c (node h.Or (trees_of (map formula_tree xs)))) (list_of (trees_of (map formula_tree xs))) (node h.Or (trees_of (map formula_tree xs)) ∷ [])) k ∙ list_of-trees_of (map formula_tree xs))
 
--- ---- the walk over a formula
+-- ---- negation by variants
 
 normal_nots_of : (xs : List Formula) → normal_nots (trees_of (map formula_tree xs)) ≡ map (λ x. normal_not (formula_tree x)) xs
 normal_nots_of [] = refl
 normal_nots_of (x ∷ xs) = ap (λ ts. normal_not (formula_tree x) ∷ ts) (normal_nots_of xs)
-
-normalise_all_of : (xs : List Formula) → list_of (normalise_all (trees_of (map formula_tree xs))) ≡ map (λ x. normalise (formula_tree x)) xs
-normalise_all_of [] = refl
-normalise_all_of (x ∷ xs) = ap (λ ts. normalise (formula_tree x) ∷ ts) (normalise_all_of xs)
 
 pub normal_not_not : (x : Formula) → normal_not (formula_tree (f.Not x)) ≡ formula_tree x
 normal_not_not x = ap normal_not (formula_tree-Not x) ∙ ap (λ c. cond c (formula_tree x) (node h.Not (more (node h.Not (more (formula_tree x) stop)) stop))) (formula_is x)
@@ -99,11 +96,24 @@ normal_not_and xs ys e = ap (normal_junction false) (e ∙ sym (normal_nots_of x
 pub normal_not_or : (xs ys : List Formula) → map formula_tree ys ≡ map (λ x. normal_not (formula_tree x)) xs → normal_junction true (map formula_tree ys) ≡ normal_not (formula_tree (f.Or xs))
 normal_not_or xs ys e = ap (normal_junction true) (e ∙ sym (normal_nots_of xs)) ∙ sym (ap normal_not (formula_tree-Or xs))
 
-pub normalise_and : (xs ys : List Formula) → map formula_tree ys ≡ map (λ x. normalise (formula_tree x)) xs → normal_junction true (map formula_tree ys) ≡ normalise (formula_tree (f.And xs))
-normalise_and xs ys e = ap (normal_junction true) (e ∙ sym (normalise_all_of xs)) ∙ sym (ap normalise (formula_tree-And xs))
+-- ---- quantifiers that are met
 
-pub normalise_or : (xs ys : List Formula) → map formula_tree ys ≡ map (λ x. normalise (formula_tree x)) xs → normal_junction false (map formula_tree ys) ≡ normalise (formula_tree (f.Or xs))
-normalise_or xs ys e = ap (normal_junction false) (e ∙ sym (normalise_all_of xs)) ∙ sym (ap normalise (formula_tree-Or xs))
+abbrev pub UnquantifiedFrom : List Formula → ℕ → Bool
+UnquantifiedFrom xs i = are_unquantified (trees_of (map formula_tree (drop i xs)))
 
-pub normalise_rel : (o : FormOp) (ts us : List Term) → map term_tree us ≡ map (λ t. normalise (term_tree t)) ts → normal_node (h.Form o) (trees_of (map term_tree us)) ≡ normalise (formula_tree (f.Rel o ts))
-normalise_rel o ts us e = ap (λ ks. normal_node (h.Form o) ks) (ap trees_of e ∙ sym (normalise_all_of_terms ts)) ∙ sym (ap normalise (formula_tree-Rel o ts))
+pub unquantified_next : (xs : List Formula) (i : ℕ) (x : Formula) (b : Bool) → i < length xs → x ≡ get_or xs i x → b ≡ is_unquantified (formula_tree x) → UnquantifiedFrom xs i ≡ b && UnquantifiedFrom xs (i + 1)
+unquantified_next xs i x b k e q = ap (λ ys. are_unquantified (trees_of (map formula_tree ys))) (one_off xs i x k e) ∙ ap (λ c. c && UnquantifiedFrom xs (i + 1)) (sym q)
+
+nots_of : (xs : List Formula) → nots (trees_of (map formula_tree xs)) ≡ trees_of (map (λ x. not_of (formula_tree x)) xs)
+nots_of [] = refl
+nots_of (x ∷ xs) = ap (more (not_of (formula_tree x))) (nots_of xs)
+
+pub turned_and : (xs ys : List Formula) → map formula_tree ys ≡ map (λ x. not_of (formula_tree x)) xs → Some (formula_tree (f.Or ys)) ≡ turned (formula_tree (f.And xs))
+turned_and xs ys e = ap Some (formula_tree-Or ys ∙ ap (node h.Or) (ap trees_of e ∙ sym (nots_of xs))) ∙ sym (ap turned (formula_tree-And xs))
+
+pub turned_or : (xs ys : List Formula) → map formula_tree ys ≡ map (λ x. not_of (formula_tree x)) xs → Some (formula_tree (f.And ys)) ≡ turned (formula_tree (f.Or xs))
+turned_or xs ys e = ap Some (formula_tree-And ys ∙ ap (node h.And) (ap trees_of e ∙ sym (nots_of xs))) ∙ sym (ap turned (formula_tree-Or xs))
+
+-- a body is a formula
+pub instance_is : (x : List ℕ) (t u : Tree) (f : Formula) (m : Bool) → true ≡ is_single_range t u → true ≡ is_integer (head_of t) → m ≡ may_replace x t (formula_tree f) → m ≡ is_instance x t u (formula_tree f)
+instance_is x t u f m a b c = λ i. (a i && (b i && sym (formula_is f) i)) && c i

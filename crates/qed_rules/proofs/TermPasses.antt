@@ -1,18 +1,18 @@
 -- The normal forms of terms by their variants.
-use Rattle.std.proofs.Common.{◌≡◌, ℕ, true, false, ◌&&◌, List, [], ◌∷◌, map, refl, sym, ◌∙◌, ap}
+use Rattle.std.proofs.Common.{◌≡◌, true, false, ◌&&◌, List, map, refl, sym, ◌∙◌, ap}
 use Rattle.std.specs.Prelude.{Option, Some, None}
 use Rattle.qed_terms.specs.declared.head.Head.TheVariants as h
 use Rattle.qed_terms.specs.declared.head.TermOp.{TermOp}
 use Rattle.qed_terms.specs.declared.term.Term.{Term}
 use Rattle.qed_terms.specs.declared.term.Term.TheVariants as t
-use Rattle.qed_terms.specs.Tree.{Tree, Trees, node, more, trees_of, head_of}
+use Rattle.qed_terms.specs.Tree.{Tree, Trees, node, trees_of, head_of}
 use Rattle.qed_terms.specs.Order.{same}
 use Rattle.qed_terms.specs.View.{term_tree}
-use Rattle.qed_terms.proofs.Equations.{term_tree-Op, term_tree-App}
+use Rattle.qed_terms.proofs.Equations.{term_tree-Op}
 use Rattle.qed_linear.specs.Linear.{is_integer, Lin, op_form, or_atom, of_lin, unwrap_or}
 use Rattle.qed_numbers.specs.Numbers.{number_step}
 use Rattle.qed_rules.specs.Rules.{then_some, chosen_arm, is_truth_constant}
-use Rattle.qed_rules.specs.Passes.{linear_term, normal_node, normalise, normalise_all}
+use Rattle.qed_rules.specs.Passes.{linear_term, normal_node}
 use Rattle.qed_linear.proofs.TermForms.{forms_of, to_lins_of}
 
 -- an operator over terms by what the first rule makes of it, and where none changes it
@@ -31,16 +31,6 @@ op_some o ts g k = sym (op_form_is o ts (Some g) k)
 
 pub op_none : (o : TermOp) (ts : List Term) → None ≡ op_form o (forms_of ts) → term_tree (t.Op o ts) ≡ linear_term (node (h.Term o) (trees_of (map term_tree ts)))
 op_none o ts k = term_tree-Op o ts ∙ sym (op_form_is o ts None k)
-
-pub normalise_all_of : (ts : List Term) → normalise_all (trees_of (map term_tree ts)) ≡ trees_of (map (λ t. normalise (term_tree t)) ts)
-normalise_all_of [] = refl
-normalise_all_of (t ∷ ts) = ap (more (normalise (term_tree t))) (normalise_all_of ts)
-
-pub normalise_op : (o : TermOp) (ts us : List Term) → map term_tree us ≡ map (λ t. normalise (term_tree t)) ts → normal_node (h.Term o) (trees_of (map term_tree us)) ≡ normalise (term_tree (t.Op o ts))
-normalise_op o ts us e = ap (normal_node (h.Term o)) (ap trees_of e ∙ sym (normalise_all_of ts)) ∙ sym (ap normalise (term_tree-Op o ts))
-
-pub normalise_app : (x : List ℕ) (ts us : List Term) → map term_tree us ≡ map (λ t. normalise (term_tree t)) ts → term_tree (t.App x us) ≡ normalise (term_tree (t.App x ts))
-normalise_app x ts us e = term_tree-App x us ∙ ap (λ ks. node (h.App x) ks) (ap trees_of e ∙ sym (normalise_all_of ts)) ∙ sym (ap normalise (term_tree-App x ts))
 
 -- ---- the arms of a condition
 

@@ -1,15 +1,18 @@
 -- The rules of the normal form, in order. Each says what becomes of a node whose kids are in normal form, where it changes the node.
-use Rattle.std.specs.Prelude.{Bool, true, false, not, ◌&&◌, ◌||◌, if◌then◌else◌, pos, int_le, List, [], ◌∷◌, ◌++◌, Option, Some, None, option_map}
+use Rattle.std.specs.Prelude.{ℕ, ℤ, Bool, true, false, not, ◌&&◌, ◌||◌, if◌then◌else◌, pos, int_le, List, [], ◌∷◌, ◌++◌, Option, Some, None, option_map}
 use Rattle.qed_terms.specs.declared.head.Head.{Head}
 use Rattle.qed_terms.specs.declared.head.Head.TheVariants as h
 use Rattle.qed_terms.specs.declared.head.TermOp.TheVariants as op
+use Rattle.qed_terms.specs.declared.head.FormOp.{FormOp}
 use Rattle.qed_terms.specs.declared.head.FormOp.TheVariants as rel
 use Rattle.qed_terms.specs.Tree.{Tree, node, Trees, stop, more, list_of, head_of, kids_in, two, three, num, true_tree, false_tree, at_most, equal, not_of, and_of, or_of}
-use Rattle.qed_terms.specs.Operators.{is_zero}
+use Rattle.qed_terms.specs.Operators.{is_zero, is_equal}
 use Rattle.qed_terms.specs.Order.{same}
 pub use Rattle.qed_numbers.specs.Numbers.{Rule, then_some, first_some, first_of_rules}
+use Rattle.qed_numbers.specs.Numbers.{number_at}
 use Rattle.qed_numbers.specs.Numbers.{division_rule, divisor_one_rule, divisor_zero_rule, dividend_zero_rule, conversion_rule, second_conversion_rule, left_shift_rule, right_shift_zero_rule, right_shift_rule, bits_rule, bits_zero_rule}
 use Rattle.qed_linear.specs.Linear.{Lin, of_lin, number, is_number, subtract, checked, head_form, to_lin, to_lins, is_integer, common_divisor, divides, tighten, divide_exact, make_lead_positive}
+use Rattle.qed_substitution.specs.Substitution.{replace, may_replace}
 
 -- the heads of formulas; a formula may stand in for a node that is one
 abbrev pub is_formula : Head → Bool
@@ -206,6 +209,55 @@ at_junctions rule h.And ts = rule true (list_of ts)
 at_junctions rule h.Or ts = rule false (list_of ts)
 at_junctions rule head ts = None
 
+-- ---- quantifiers: `forall`, said by true, and `exists`, said by false
+
+-- the two are numbers, and the second isn't above the first
+abbrev pub is_empty_between : Option ℤ → Option ℤ → Bool
+is_empty_between (Some a) (Some b) = int_le b a
+is_empty_between a b = false
+
+-- the form is the number 1
+abbrev pub is_one : Option Lin → Bool
+is_one None = false
+is_one (Some f) = is_number f && is_equal (f.constant) (pos 1)
+
+-- the end is the beginning plus 1
+abbrev pub is_single_range : Tree → Tree → Bool
+is_single_range t u = is_one (checked (subtract (to_lin u) (to_lin t)))
+
+-- over an empty range of numbers, or of a body that is the unit
+abbrev pub empty_rule : Bool → List ℕ → Tree → Tree → Tree → Option Tree
+empty_rule b x t u f = then_some (is_empty_between (number_at t) (number_at u) || is_truth_constant b f) (truth_constant b)
+
+-- Over the beginning alone. The beginning stands in for an integer, and the body for a formula, so they have to be such.
+abbrev pub is_instance : List ℕ → Tree → Tree → Tree → Bool
+is_instance x t u f = is_single_range t u && (is_integer (head_of t) && is_formula (head_of f)) && may_replace x t f
+
+abbrev pub single_range_rule : Bool → List ℕ → Tree → Tree → Tree → Option Tree
+single_range_rule b x t u f = then_some (is_instance x t u f) (replace x t f)
+
+abbrev pub at_quantifiers : (Bool → List ℕ → Tree → Tree → Tree → Option Tree) → Rule
+at_quantifiers rule (h.Forall x) (more t (more u (more f stop))) = rule true x t u f
+at_quantifiers rule (h.Exists x) (more t (more u (more f stop))) = rule false x t u f
+at_quantifiers rule head ts = None
+
+-- ---- memories
+
+-- the first two are one
+abbrev pub is_twice : Trees → Bool
+is_twice (more m (more n ts)) = same m n
+is_twice ts = false
+
+-- a memory and itself, which are the same, and agree outside any regions
+abbrev pub is_same_memory : FormOp → Trees → Bool
+is_same_memory rel.Same (more m (more n stop)) = same m n
+is_same_memory (rel.Frame shapes) ts = is_twice ts
+is_same_memory o ts = false
+
+abbrev pub same_memory_rule : Rule
+same_memory_rule (h.Form o) ts = then_some (is_same_memory o ts) true_tree
+same_memory_rule head ts = None
+
 -- ---- the table
 
 abbrev pub table : List Rule
@@ -214,7 +266,8 @@ table =
     ∷ division_rule ∷ divisor_one_rule ∷ divisor_zero_rule ∷ dividend_zero_rule ∷ conversion_rule ∷ second_conversion_rule
     ∷ left_shift_rule ∷ right_shift_zero_rule ∷ right_shift_rule ∷ bits_rule ∷ bits_zero_rule
     ∷ choice_rule ∷ less_rule ∷ at_most_rule ∷ equality_rule ∷ implication_rule ∷ equivalence_rule ∷ negation_rule
-    ∷ at_junctions flat_rule ∷ at_junctions absorbing_rule ∷ at_junctions units_rule ∷ at_junctions repeats_rule ∷ at_junctions opposites_rule ∷ at_junctions single_rule ∷ []
+    ∷ at_junctions flat_rule ∷ at_junctions absorbing_rule ∷ at_junctions units_rule ∷ at_junctions repeats_rule ∷ at_junctions opposites_rule ∷ at_junctions single_rule
+    ∷ at_quantifiers empty_rule ∷ at_quantifiers single_range_rule ∷ same_memory_rule ∷ []
 
 -- what the first rule that changes a node makes of it
 abbrev pub step : Tree → Option Tree

@@ -5,9 +5,15 @@ mod build;
 mod constants;
 mod junctions;
 mod negations;
+mod pass;
 mod quantifiers;
 mod relations;
 mod terms;
-mod walk;
+mod turns;
 
-pub use walk::normalise;
+pub use junctions::normal_junction;
+pub use pass::Pass;
+pub use quantifiers::pass_quantifier;
+pub use relations::normal_relation;
+pub use terms::{normal_ite, normal_op};
+pub use turns::{pass_equivalence, pass_implication, pass_not};

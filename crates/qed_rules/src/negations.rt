@@ -1,17 +1,16 @@
-// Negation, `or` and equivalence of formulas that are in normal form.
+// Negation, implication and equivalence of formulas that are in normal form, where no quantifier is met.
 ghost use Rattle.std.specs.Prelude.{◌≡◌, true, false, [], ◌∷◌, map, IfOk};
 ghost use Rattle.qed_terms.specs.View.{formula_tree};
 ghost use Rattle.qed_rules.specs.Passes.{normal_junction, normal_not};
 
 use crate::build::pair;
 use crate::junctions::normal_junction;
-use crate::quantifiers::quantify_over;
 use crate::relations::negated_relation;
 use qed_terms::Formula;
 use std::alloc::Global;
 use wp_base::{List, NoMemory};
 
-/// The normal form of the negation of a formula that is in normal form.
+/// The normal form of the negation of a formula that is in normal form. A quantifier keeps its `not`.
 #[cycle(normal_not)]
 #[tactic(auto, using(qed_terms::proofs::Equations::tree_laws))]
 pub fn normal_not(alloc: Global, formula: &Formula) -> Result<Formula, NoMemory>
@@ -23,20 +22,14 @@ pub fn normal_not(alloc: Global, formula: &Formula) -> Result<Formula, NoMemory>
         Formula::Not(inner) => inner.get().copy(alloc),
         Formula::And(operands) => normal_junction(alloc, false, normal_nots(alloc, operands)?),
         Formula::Or(operands) => normal_junction(alloc, true, normal_nots(alloc, operands)?),
-        Formula::Forall(name, low, high, body) => {
-            let body = normal_not(alloc, body.get())?;
-            quantify_over(alloc, false, name, low.get(), high.get(), body)
-        }
-        Formula::Exists(name, low, high, body) => {
-            let body = normal_not(alloc, body.get())?;
-            quantify_over(alloc, true, name, low.get(), high.get(), body)
-        }
         Formula::Rel(op, terms) => match negated_relation(alloc, op, terms)? {
             Some(opposite) => Ok(opposite),
             None => Formula::negation(alloc, formula.copy(alloc)?),
         },
         Formula::Imp(_, _) => Formula::negation(alloc, formula.copy(alloc)?),
         Formula::Iff(_, _) => Formula::negation(alloc, formula.copy(alloc)?),
+        Formula::Forall(_, _, _, _) => Formula::negation(alloc, formula.copy(alloc)?),
+        Formula::Exists(_, _, _, _) => Formula::negation(alloc, formula.copy(alloc)?),
     }
 }
 

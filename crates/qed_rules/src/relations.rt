@@ -8,8 +8,8 @@ ghost use Rattle.qed_terms.specs.declared.head.FormOp.TheVariants as rel;
 ghost use Rattle.qed_terms.specs.Order.{same};
 ghost use Rattle.qed_linear.specs.Linear.{of_lin, subtract, checked, to_lin, unwrap_or};
 ghost use Rattle.qed_linear.specs.View.{lin_of};
-ghost use Rattle.qed_rules.specs.Rules.{truth_constant, at_most_tree, equal_tree, negated_relation_at};
-ghost use Rattle.qed_rules.specs.Passes.{linear_term, normal_at_most, normal_equal, normal_node};
+ghost use Rattle.qed_rules.specs.Rules.{truth_constant, at_most_tree, equal_tree, is_same_memory, is_twice, negated_relation_at};
+ghost use Rattle.qed_rules.specs.Passes.{compared, linear_term, normal_at_most, normal_equal, normal_node};
 
 use crate::build::{copy_both, pair};
 use crate::constants::truth_constant;
@@ -55,7 +55,8 @@ fn equal_form(alloc: Global, form: LinForm) -> Result<Formula, NoMemory>
     with_zero(alloc, FormOp::Equal, form)
 }
 
-fn difference(alloc: Global, left: &Term, right: &Term) -> Result<Option<LinForm>, NoMemory>
+/// The form of the first term less the second one.
+pub fn difference(alloc: Global, left: &Term, right: &Term) -> Result<Option<LinForm>, NoMemory>
     ensures { IfOk result (λ form. option_map lin_of form ≡ checked (subtract (to_lin (term_tree left.now)) (to_lin (term_tree right.now)))) }
 {
     let form = form_of(alloc, left)?;
@@ -111,7 +112,7 @@ fn normal_comparison(
     left: &Term,
     right: &Term,
 ) -> Result<Option<Formula>, NoMemory>
-    ensures { IfOk result (λ formula. unwrap_or (option_map formula_tree formula) (node (h.Form op.now) (two (term_tree left.now) (term_tree right.now))) ≡ normal_node (h.Form op.now) (two (term_tree left.now) (term_tree right.now))) }
+    ensures { IfOk result (λ formula. unwrap_or (option_map formula_tree formula) (node (h.Form op.now) (two (term_tree left.now) (term_tree right.now))) ≡ compared op.now (two (term_tree left.now) (term_tree right.now))) }
 {
     match op {
         FormOp::Equal => Ok(Some(normal_equal(alloc, left, right)?)),
@@ -127,10 +128,50 @@ fn normal_comparison(
     }
 }
 
+// Whether the first two terms are the same, where there are so many.
+fn is_twice(terms: &[Term]) -> bool
+    ensures { result ≡ is_twice (trees_of (map term_tree terms.now)) }
+{
+    if terms.len() < 2 {
+        return false;
+    }
+    terms[0].is_same(&terms[1])
+}
+
+// Whether the relation is one of a memory and itself.
+#[tactic(auto, using(crate::proofs::RelationPasses::pair_twice, crate::proofs::RelationPasses::not_pair))]
+fn is_same_memory(op: &FormOp, terms: &[Term]) -> bool
+    ensures { result ≡ is_same_memory op.now (trees_of (map term_tree terms.now)) }
+{
+    match op {
+        FormOp::Same => terms.len() == 2 && is_twice(terms),
+        FormOp::Frame(_) => is_twice(terms),
+        FormOp::Equal
+        | FormOp::AtMost
+        | FormOp::Less
+        | FormOp::Read(_)
+        | FormOp::Write(_)
+        | FormOp::Live
+        | FormOp::Has(_)
+        | FormOp::WellFormed(_) => false,
+    }
+}
+
 /// The normal form of a relation of terms that are in normal form.
 #[tactic(auto, using(qed_terms::proofs::Equations::tree_laws))]
 pub fn normal_relation(alloc: Global, op: FormOp, terms: List<Term>) -> Result<Formula, NoMemory>
     ensures { IfOk result (λ formula. formula_tree formula ≡ normal_node (h.Form op) (trees_of (map term_tree terms))) }
+{
+    if is_same_memory(&op, terms.as_slice()) {
+        return Ok(Formula::True);
+    }
+    compare(alloc, op, terms)
+}
+
+// The same, where it isn't one of a memory and itself.
+#[tactic(auto, using(qed_terms::proofs::Equations::tree_laws))]
+fn compare(alloc: Global, op: FormOp, terms: List<Term>) -> Result<Formula, NoMemory>
+    ensures { IfOk result (λ formula. formula_tree formula ≡ compared op (trees_of (map term_tree terms))) }
 {
     if terms.len() != 2 {
         return Ok(Formula::Rel(op, terms));

@@ -1,5 +1,5 @@
 -- The normal form is one tree and its own normal form; where each step keeps the meaning, so does the normal form.
-use Rattle.std.proofs.Common.{◌≡◌, ◌⊎◌, refl, sym, ◌∙◌, ap, inl, inr, subst}
+use Rattle.std.proofs.Common.{◌≡◌, ◌⊎◌, ℕ, suc, ◌+◌, refl, sym, ◌∙◌, ap, inl, inr, subst}
 use Rattle.std.specs.Prelude.{Option, Some, None}
 use Rattle.qed_terms.specs.declared.head.Head.{Head}
 use Rattle.qed_terms.specs.Tree.{Tree, node, Trees, stop, more, head_of, kids_in}
@@ -7,48 +7,65 @@ use Rattle.qed_terms.specs.Meaning.{World, Values, meaning, meanings, head_meani
 use Rattle.qed_simplify.specs.Normal.{Normal, Normals, stays, changes, nothing, each}
 
 module _ (step : Tree → Option Tree) where
-  abbrev Stays : Tree → Tree → Type 0
-  Stays t v = (us : Trees) × Normals step (kids_in t) us × (step (node (head_of t) us) ≡ None) × (v ≡ node (head_of t) us)
+  abbrev mutual
+    -- how many nodes and rules it takes to a normal form
+    pub work : {t u : Tree} → Normal step t u → ℕ
+    work (stays ks e) = suc (works ks)
+    work (changes ks e d) = suc (works ks + work d)
 
-  abbrev Changes : Tree → Tree → Type 0
-  Changes t v = (us : Trees) × (w : Tree) × Normals step (kids_in t) us × (step (node (head_of t) us) ≡ Some w) × Normal step w v
+    pub works : {ts us : Trees} → Normals step ts us → ℕ
+    works nothing = 0
+    works (each d ds) = work d + works ds
 
-  opened : {t v : Tree} → Normal step t v → Stays t v ⊎ Changes t v
-  opened (stays ks e) = inl (_, ks, e, refl)
-  opened (changes ks e d) = inr (_, _, ks, e, d)
+  abbrev Stays : Tree → Tree → ℕ → Type 0
+  Stays t v n = (us : Trees) × (ks : Normals step (kids_in t) us) × (step (node (head_of t) us) ≡ None) × (v ≡ node (head_of t) us) × (n ≡ suc (works ks))
 
-  abbrev First : Trees → Trees → Type 0
-  First stop us = us ≡ stop
-  First (more t ts) us = (v : Tree) × (vs : Trees) × Normal step t v × Normals step ts vs × (us ≡ more v vs)
+  abbrev Changes : Tree → Tree → ℕ → Type 0
+  Changes t v n = (us : Trees) × (w : Tree) × (ks : Normals step (kids_in t) us) × (step (node (head_of t) us) ≡ Some w) × (d : Normal step w v) × (n ≡ suc (works ks + work d))
 
-  firsts : {ts us : Trees} → Normals step ts us → First ts us
-  firsts nothing = refl
-  firsts (each d ds) = (_, _, d, ds, refl)
+  pub opened : {t v : Tree} (d : Normal step t v) → Stays t v (work d) ⊎ Changes t v (work d)
+  opened (stays ks e) = inl (_, ks, e, refl, refl)
+  opened (changes ks e d) = inr (_, _, ks, e, d, refl)
+
+  abbrev First : Trees → Trees → ℕ → Type 0
+  First stop us n = (us ≡ stop) × (n ≡ 0)
+  First (more t ts) us n = (v : Tree) × (vs : Trees) × (d : Normal step t v) × (ds : Normals step ts vs) × (us ≡ more v vs) × (n ≡ work d + works ds)
+
+  pub firsts : {ts us : Trees} (ds : Normals step ts us) → First ts us (works ds)
+  firsts nothing = (refl, refl)
+  firsts (each d ds) = (_, _, d, ds, refl, refl)
 
   mutual
-    pub one_normal : {t u v : Tree} → Normal step t u → Normal step t v → u ≡ v
-    one_normal {v = v} (stays {head} {ts} {us} ks e) d = elim (opened d) [
-      | inl s ↦ let same : us ≡ s.0 = one_normals ks s.1 in ap (node head) same ∙ sym s.3
-      | inr c ↦ let k : us ≡ c.0 = one_normals ks c.2 in let x = c.3 in let y = ap (λ z. step (node head z)) k in cc
+    -- a tree has one normal form, in one way
+    pub same_normal : {t u v : Tree} (n : Normal step t u) (d : Normal step t v) → (u ≡ v) × (work n ≡ work d)
+    same_normal {v = v} (stays {head} {ts} {us} ks e) d = elim (opened d) [
+      | inl s ↦ let same = same_normals ks s.1 in (ap (node head) same.0 ∙ sym s.3, ap suc same.1 ∙ sym s.4)
+      | inr c ↦ let k : us ≡ c.0 = (same_normals ks c.2).0 in let x = c.3 in let y = ap (λ z. step (node head z)) k in absurd cc
     ]
-    one_normal {u = u} {v = v} (changes {head} {ts} {us} {w} ks e n) d = elim (opened d) [
-      | inl s ↦ let k : us ≡ s.0 = one_normals ks s.1 in let x = s.2 in let y = ap (λ z. step (node head z)) k in cc
+    same_normal {u = u} {v = v} (changes {head} {ts} {us} {w} ks e n) d = elim (opened d) [
+      | inl s ↦ let k : us ≡ s.0 = (same_normals ks s.1).0 in let x = s.2 in let y = ap (λ z. step (node head z)) k in absurd cc
       | inr c ↦
-          let k : us ≡ c.0 = one_normals ks c.2 in
+          let k = same_normals ks c.2 in
           let x = c.3 in
-          let y = ap (λ z. step (node head z)) k in
+          let y = ap (λ z. step (node head z)) k.0 in
           let same : w ≡ c.1 = cc in
-          subst (λ z. Normal step z v → u ≡ v) same (λ m. one_normal n m) c.4
+          let rest = subst (λ z. (m : Normal step z v) → (u ≡ v) × (work n ≡ work m)) same (λ m. same_normal n m) c.4 in
+          (rest.0, (λ i. suc (k.1 i + rest.1 i)) ∙ sym c.5)
     ]
 
-    pub one_normals : {ts us vs : Trees} → Normals step ts us → Normals step ts vs → us ≡ vs
-    one_normals nothing d = sym (firsts d)
-    one_normals (each n ns) d =
-        let f = firsts d in
-        let a = one_normal n f.2 in
-        let b = one_normals ns f.3 in
-        let e = f.4 in
-        cc
+    pub same_normals : {ts us vs : Trees} (ns : Normals step ts us) (ds : Normals step ts vs) → (us ≡ vs) × (works ns ≡ works ds)
+    same_normals nothing d = let f = firsts d in (sym f.0, sym f.1)
+    same_normals (each d ds) e =
+        let f = firsts e in
+        let a = same_normal d f.2 in
+        let b = same_normals ds f.3 in
+        ((λ i. more (a.0 i) (b.0 i)) ∙ sym f.4, (λ i. a.1 i + b.1 i) ∙ sym f.5)
+
+  pub one_normal : {t u v : Tree} → Normal step t u → Normal step t v → u ≡ v
+  one_normal n d = (same_normal n d).0
+
+  pub one_normals : {ts us vs : Trees} → Normals step ts us → Normals step ts vs → us ≡ vs
+  one_normals ns ds = (same_normals ns ds).0
 
   mutual
     -- a normal form is its own normal form

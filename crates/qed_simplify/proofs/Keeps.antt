@@ -1,11 +1,10 @@
 -- Each rule keeps the meaning.
-use Rattle.std.proofs.Common.{◌≡◌, inl, inr, Bool, true, false, not, ◌&&◌, ◌||◌, cond, ℤ, pos, ◌+ℤ◌, ◌-ℤ◌, int_le, List, [], ◌∷◌, ◌++◌, map, refl, sym, ◌∙◌, ap}
+use Rattle.std.proofs.Common.{◌≡◌, inl, inr, ℕ, Bool, true, false, not, ◌&&◌, ◌||◌, cond, ℤ, pos, ◌+ℤ◌, ◌-ℤ◌, int_le, List, [], ◌∷◌, ◌++◌, map, refl, sym, ◌∙◌, ap}
 use Rattle.std.specs.Prelude.{Option, Some, None, option_map}
 use Rattle.qed_terms.specs.declared.head.Head.{Head}
 use Rattle.qed_terms.specs.declared.head.Head.TheVariants as h
 use Rattle.qed_terms.specs.declared.head.TermOp.TheVariants as op
 use Rattle.qed_terms.specs.declared.head.FormOp.TheVariants as rel
-use Rattle.qed_terms.specs.declared.head.Sort.TheVariants as sort
 use Rattle.qed_terms.specs.Tree.{Tree, node, Trees, stop, more, trees_of, list_of, head_of, kids_in, two, three, num, at_most, equal, true_tree, false_tree, not_of}
 use Rattle.qed_terms.specs.Operators.{is_zero, is_equal}
 use Rattle.wp_base.specs.Blocks.{to_nat}
@@ -13,7 +12,7 @@ use Rattle.qed_terms.specs.Meaning.{World, Values, with_int, Value, Whole, Truth
 use Rattle.qed_terms.proofs.Lists.{trees_of-list_of}
 use Rattle.qed_terms.specs.Order.{same}
 use Rattle.qed_linear.specs.Linear.{fits, Part, Lin, lin, number, is_number, part_tree, sum_tree, of_lin, subtract, is_integer, parts_fit, checked, head_form, to_lin, to_lins, common_divisor, divides, tighten, divide_exact, make_lead_positive}
-use Rattle.qed_rules.specs.Rules.{Rule, is_formula, unless_same, changed, sums_rule, chosen_arm, choice_rule, truth_constant, at_most_zero, equals_zero, at_most_tree, equal_tree, less_rule, at_most_rule, equality_rule, implication_rule, equivalence_rule, nots, negated_relation, inward, negation_rule, junction, is_junction, is_truth_constant, has, among, among_some, flatten, drop_units, has_repeat, drop_repeats, is_opposed, flat_rule, absorbing_rule, units_rule, repeats_rule, opposites_rule, single_rule, at_junctions, first_of_rules, step}
+use Rattle.qed_rules.specs.Rules.{Rule, is_formula, unless_same, changed, sums_rule, chosen_arm, choice_rule, truth_constant, at_most_zero, equals_zero, at_most_tree, equal_tree, less_rule, at_most_rule, equality_rule, implication_rule, equivalence_rule, nots, negated_relation, inward, negation_rule, junction, is_junction, is_truth_constant, has, among, among_some, flatten, drop_units, has_repeat, drop_repeats, is_opposed, flat_rule, absorbing_rule, units_rule, repeats_rule, opposites_rule, single_rule, at_junctions, empty_rule, single_range_rule, at_quantifiers, same_memory_rule, first_of_rules, step}
 use Rattle.qed_numbers.specs.Numbers.{number_step}
 use Rattle.qed_numbers.proofs.Keeps.{numbers_keep}
 use Rattle.qed_linear.proofs.Facts.{and_left, and_right}
@@ -21,6 +20,8 @@ use Rattle.qed_numbers.proofs.Tests.{or_either, then_some_is, either}
 use Rattle.qed_terms.proofs.Total.{same_exact}
 use Rattle.qed_simplify.proofs.Comparisons.{le_difference, lt_more, not_le, zero_less}
 use Rattle.qed_simplify.proofs.Derived.{Fixed, AllFixed}
+use Rattle.qed_simplify.proofs.Sorts.{integer_whole, formula_truth}
+use Rattle.qed_simplify.proofs.Quantified.{KeepsQuantifier, keeps_empty, keeps_single_range, keeps_same_memory}
 use Rattle.qed_simplify.proofs.Settled.{Canonical, to_lin_canonical, to_lins_canonical, IsAtom}
 use Rattle.qed_linear.proofs.Canonical.{checked_canonical, subtract_canonical, head_form_canonical}
 use Rattle.qed_linear.proofs.Values.{value_of, subtract_value, checked_value, number_value, to_lin_value, head_form_value, of_lin_value, tighten_value, divide_exact_value, never_zero, lead_positive_value}
@@ -38,27 +39,6 @@ module _ (world : World) (env : Values) where
 
   abbrev Keeps : Rule → Type 0
   Keeps r = (head : Head) (ts : Trees) (w : Tree) → AllFixed step ts → r head ts ≡ Some w → M w ≡ M (node head ts)
-
-  -- ---- sorts
-
-  integer_whole : (t : Tree) → is_integer (head_of t) ≡ true → M t ≡ Whole (V t)
-  integer_whole (node (h.Num z) ts) k = refl
-  integer_whole (node (h.Var x sort.Int) ts) k = refl
-  integer_whole (node (h.Term op.Store) ts) k = absurd cc
-  integer_whole (node (h.Term (op.Alloc layout)) ts) k = absurd cc
-  integer_whole (node (h.Term op.Grow) ts) k = absurd cc
-  integer_whole (node (h.Term o) ts) k = refl
-  integer_whole (node h.Ite ts) k = refl
-  integer_whole (node (h.App f) ts) k = refl
-  integer_whole (node head ts) k = absurd cc
-
-  formula_truth : (t : Tree) → is_formula (head_of t) ≡ true → M t ≡ Truth (so t)
-  formula_truth (node (h.Num z) ts) k = absurd cc
-  formula_truth (node (h.Var x s) ts) k = absurd cc
-  formula_truth (node (h.Term o) ts) k = absurd cc
-  formula_truth (node h.Ite ts) k = absurd cc
-  formula_truth (node (h.App f) ts) k = absurd cc
-  formula_truth (node head ts) k = refl
 
   truth_means : (b : Bool) → M (truth_constant b) ≡ Truth b
   truth_means true = refl
@@ -108,7 +88,7 @@ module _ (world : World) (env : Values) where
       go None e r = absurd cc
       go (Some g) e r =
           let good = head_form_canonical IsAtom head (to_lins ts) g (to_lins_canonical ts f) e in
-          ap M (sym (unless_same_is (of_lin g) (node head ts) w r)) ∙ integer_whole (of_lin g) (of_lin_integer (g.parts) (g.constant) good.1)
+          ap M (sym (unless_same_is (of_lin g) (node head ts) w r)) ∙ integer_whole world env (of_lin g) (of_lin_integer (g.parts) (g.constant) good.1)
           ∙ ap Whole (of_lin_value world env g ∙ head_form_value world env head ts g e) ∙ sym (own_integer head (to_lins ts) g e ts)
 
   -- ---- chosen arm
@@ -122,12 +102,12 @@ module _ (world : World) (env : Values) where
   either_arm false t u e = e
 
   arm_means : (f t u w : Tree) → chosen_arm (head_of f) t u ≡ Some w → M w ≡ Whole (cond (so f) (V t) (V u))
-  arm_means (node h.True ts) t u w k = let p = then_some_is (is_integer (head_of t)) t w k in ap M (sym p.1) ∙ integer_whole t p.0
-  arm_means (node h.False ts) t u w k = let p = then_some_is (is_integer (head_of u)) u w k in ap M (sym p.1) ∙ integer_whole u p.0
+  arm_means (node h.True ts) t u w k = let p = then_some_is (is_integer (head_of t)) t w k in ap M (sym p.1) ∙ integer_whole world env t p.0
+  arm_means (node h.False ts) t u w k = let p = then_some_is (is_integer (head_of u)) u w k in ap M (sym p.1) ∙ integer_whole world env u p.0
   arm_means (node head ts) t u w k =
       let p = then_some_is (same t u && is_integer (head_of t)) t w k in
       let a = same_arm t u p.0 in
-      ap M (sym p.1) ∙ integer_whole t a.1 ∙ ap Whole (either_arm (so (node head ts)) t u a.0)
+      ap M (sym p.1) ∙ integer_whole world env t a.1 ∙ ap Whole (either_arm (so (node head ts)) t u a.0)
 
   keeps_arm : Keeps choice_rule
   keeps_arm h.Ite (more f (more t (more u stop))) w k e = arm_means f t u w e
@@ -247,7 +227,7 @@ module _ (world : World) (env : Values) where
   inward_means (node h.False ts) w k = let is : true_tree ≡ w = cc in ap M (sym is)
   inward_means (node h.Not (more f stop)) w k =
       let p = then_some_is (is_formula (head_of f)) f w k in
-      ap M (sym p.1) ∙ formula_truth f p.0 ∙ ap Truth (sym (not_not (so f)))
+      ap M (sym p.1) ∙ formula_truth world env f p.0 ∙ ap Truth (sym (not_not (so f)))
   inward_means (node h.And ts) w k = let is : node h.Or (nots ts) ≡ w = cc in ap M (sym is) ∙ ap Truth (nots_some ts)
   inward_means (node h.Or ts) w k = let is : node h.And (nots ts) ≡ w = cc in ap M (sym is) ∙ ap Truth (nots_each ts)
   inward_means (node (h.Forall x) (more t (more u (more f stop)))) w k =
@@ -417,8 +397,18 @@ module _ (world : World) (env : Values) where
   keeps_single b [] w k = let is : truth_constant b ≡ w = cc in ap M (sym is) ∙ truth_means b
   keeps_single b (t ∷ []) w k =
       let p = then_some_is (is_formula (head_of t)) t w k in
-      ap M (sym p.1) ∙ formula_truth t p.0 ∙ ap Truth (sym (one_said b t))
+      ap M (sym p.1) ∙ formula_truth world env t p.0 ∙ ap Truth (sym (one_said b t))
   keeps_single b (t ∷ u ∷ ts) w k = absurd cc
+
+  -- ---- quantifiers, memories
+
+  at_quantifiers_keep : (rule : Bool → List ℕ → Tree → Tree → Tree → Option Tree) → KeepsQuantifier world env rule → Keeps (at_quantifiers rule)
+  at_quantifiers_keep rule keep (h.Forall x) (more t (more u (more f stop))) w fixed k = keep true x t u f w k
+  at_quantifiers_keep rule keep (h.Exists x) (more t (more u (more f stop))) w fixed k = keep false x t u f w k
+  at_quantifiers_keep rule keep head ts w fixed k = absurd cc
+
+  keeps_memory : Keeps same_memory_rule
+  keeps_memory head ts w f k = keeps_same_memory world env head ts w k
 
   -- ---- the table
 
@@ -434,37 +424,27 @@ module _ (world : World) (env : Values) where
   ]
 
   -- the rules that aren't on numbers alone
+  abbrev last_rules : List Rule
+  last_rules = at_quantifiers empty_rule ∷ at_quantifiers single_range_rule ∷ same_memory_rule ∷ []
+
+  abbrev junction_rules : List Rule
+  junction_rules =
+      at_junctions flat_rule ∷ at_junctions absorbing_rule ∷ at_junctions units_rule ∷ at_junctions repeats_rule ∷ at_junctions opposites_rule ∷ at_junctions single_rule ∷ last_rules
+
   abbrev other_rules : List Rule
-  other_rules =
-      sums_rule ∷ choice_rule ∷ less_rule ∷ at_most_rule ∷ equality_rule ∷ implication_rule ∷ equivalence_rule ∷ negation_rule
-      ∷ at_junctions flat_rule ∷ at_junctions absorbing_rule ∷ at_junctions units_rule ∷ at_junctions repeats_rule ∷ at_junctions opposites_rule ∷ at_junctions single_rule ∷ []
+  other_rules = sums_rule ∷ choice_rule ∷ less_rule ∷ at_most_rule ∷ equality_rule ∷ implication_rule ∷ equivalence_rule ∷ negation_rule ∷ junction_rules
+
+  last_keep : AllKeep last_rules
+  last_keep = (at_quantifiers_keep empty_rule (keeps_empty world env), (at_quantifiers_keep single_range_rule (keeps_single_range world env), (keeps_memory, tt)))
+
+  junctions_keep : AllKeep junction_rules
+  junctions_keep = (
+    at_junctions_keep flat_rule keeps_flat,
+    (at_junctions_keep absorbing_rule keeps_absorb, (at_junctions_keep units_rule keeps_units, (at_junctions_keep repeats_rule keeps_repeats, (at_junctions_keep opposites_rule keeps_oppose, (at_junctions_keep single_rule keeps_single, last_keep))))),
+  )
 
   others_keep : AllKeep other_rules
-  others_keep = (
-    keeps_sums,
-    (
-      keeps_arm,
-      (
-        keeps_less,
-        (
-          keeps_at_most,
-          (
-            keeps_equal,
-            (
-              keeps_imp,
-              (
-                keeps_iff,
-                (
-                  keeps_not,
-                  (at_junctions_keep flat_rule keeps_flat, (at_junctions_keep absorbing_rule keeps_absorb, (at_junctions_keep units_rule keeps_units, (at_junctions_keep repeats_rule keeps_repeats, (at_junctions_keep opposites_rule keeps_oppose, (at_junctions_keep single_rule keeps_single, tt)))))),
-                ),
-              ),
-            ),
-          ),
-        ),
-      ),
-    ),
-  )
+  others_keep = (keeps_sums, (keeps_arm, (keeps_less, (keeps_at_most, (keeps_equal, (keeps_imp, (keeps_iff, (keeps_not, junctions_keep))))))))
 
   pub step_keeps : (head : Head) (ts : Trees) (w : Tree) → AllFixed step ts → step (node head ts) ≡ Some w → M w ≡ M (node head ts)
   step_keeps (h.Term o) ts w f k = elim (either (sums_rule (h.Term o) ts) (number_step (h.Term o) ts) w k) [

@@ -2,5 +2,9 @@
 #![tactic(auto)]
 
 mod normal_form;
+mod walk;
 
-pub use normal_form::{normal, normal_is_one, normal_is_settled, normal_keeps_meaning};
+pub use normal_form::{
+    each_has_normal, normal, normal_free_names, normal_is_one, normal_is_settled,
+    normal_keeps_meaning, normal_quantifiers,
+};

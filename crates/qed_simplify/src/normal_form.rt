@@ -3,16 +3,16 @@ ghost use Rattle.std.specs.Prelude.{◌≡◌, IfOk};
 ghost use Rattle.qed_terms.specs.Meaning.{World, Values, truth};
 ghost use Rattle.qed_terms.specs.View.{formula_tree};
 ghost use Rattle.qed_rules.specs.Rules.{step};
-ghost use Rattle.qed_simplify.specs.Normal.{Normal, NormalIsOne, NormalIsSettled, NormalKeepsMeaning};
+ghost use Rattle.qed_simplify.specs.Normal.{EachHasNormal, Normal, NormalFreeNames, NormalIsOne, NormalIsSettled, NormalKeepsMeaning, NormalQuantifiers};
 
-use qed_rules::normalise;
+use crate::walk::normalise;
 use qed_terms::Formula;
 use std::alloc::Global;
 use wp_base::NoMemory;
 
 /// The normal form of a formula: kids first, from the left, and at each node the first rule of the table that changes
 /// it, whose result is brought to normal form in the same way.
-#[tactic(auto, using(crate::proofs::Laws::passes_normal, crate::proofs::Laws::passes_keep))]
+#[tactic(auto, using(crate::proofs::Laws::means))]
 pub fn normal(alloc: Global, formula: &Formula) -> Result<Formula, NoMemory>
     ensures normal { IfOk result (λ r. Normal step (formula_tree formula.now) (formula_tree r)) }
     ensures same { IfOk result (λ r. (w : World) (env : Values) → truth w env (formula_tree r) ≡ truth w env (formula_tree formula.now)) }
@@ -20,6 +20,11 @@ pub fn normal(alloc: Global, formula: &Formula) -> Result<Formula, NoMemory>
     let normal = normalise(alloc, formula)?;
     Ok(normal)
 }
+
+/// Each tree has a normal form.
+pub fn each_has_normal()
+    ensures { EachHasNormal }
+{}
 
 /// A tree has one normal form.
 pub fn normal_is_one()
@@ -29,6 +34,16 @@ pub fn normal_is_one()
 /// A normal form is its own.
 pub fn normal_is_settled()
     ensures { NormalIsSettled }
+{}
+
+/// A normal form has no free name that its tree hasn't.
+pub fn normal_free_names()
+    ensures { NormalFreeNames }
+{}
+
+/// A normal form has no more quantifiers above relations than its tree.
+pub fn normal_quantifiers()
+    ensures { NormalQuantifiers }
 {}
 
 /// A normal form means what the tree means.

@@ -1,0 +1,11 @@
+pub mod Again
+pub mod Cells
+pub mod Chains
+pub mod Congruence
+pub mod Counts
+pub mod Finding
+pub mod Growth
+pub mod Keeps
+pub mod Looks
+pub mod Maps
+pub mod Placed

@@ -1,0 +1,5 @@
+pub mod Alike
+pub mod Laws
+pub mod Memories
+pub mod Passes
+pub mod View

@@ -1,0 +1,62 @@
+//! Floor 7, command: the program `wpgoal`: reads formulas, one a line, in the text that goals have, and writes each again, or its normal form.
+//! All that it does is `wpgoal_main`; here are the words, the runtime and the status.
+#![tactic(auto)]
+
+use std::env;
+use std::io::ErrorKind;
+use std::process::ExitCode;
+use wp_base::{Status, Str};
+use wp_io::{RealFiles, RealSink};
+use wpgoal_cli::wpgoal_main;
+
+// The words after the name of the program.
+fn command_words(rt: &HostRuntime) -> Result<Vec<Str>, Status> {
+    let alloc = rt.alloc();
+    let args = match env::args(rt) {
+        Ok(args) => args,
+        Err(error) if error.kind() == ErrorKind::OutOfMemory => return Err(Status::NoMemory),
+        Err(_) => return Err(Status::Usage),
+    };
+    let mut words = Vec::new(alloc);
+    for word in args.skip(1) {
+        let Ok(word) = Str::from_bytes(alloc, word.as_bytes()) else {
+            return Err(Status::NoMemory);
+        };
+        if words.push(word).is_err() {
+            return Err(Status::NoMemory);
+        }
+    }
+    Ok(words)
+}
+
+fn run(rt: HostRuntime) -> Status {
+    match command_words(&rt) {
+        Ok(words) => {
+            let mut files = RealFiles::new(rt);
+            let mut out = RealSink::new(rt);
+            wpgoal_main(rt.alloc(), words.as_slice(), &mut files, &mut out)
+        }
+        Err(status) => status,
+    }
+}
+
+// What is said on standard error.
+fn text_of(status: Status) -> &'static str {
+    match status {
+        Status::AllProved | Status::SomeUnknown | Status::Refused => "",
+        Status::Usage => "usage: wpgoal [--normal] FILE",
+        Status::ReadFault => "wpgoal: cannot read",
+        Status::WriteFault => "wpgoal: cannot write",
+        Status::NoMemory => "wpgoal: out of memory",
+    }
+}
+
+fn main(rt: HostRuntime) -> ExitCode {
+    let status = run(rt);
+    let text = text_of(status);
+    if !text.is_empty() {
+        // Where standard error is closed too, the status says it alone.
+        let _ = eprintln!(rt; "{text}");
+    }
+    ExitCode::from(status.code())
+}

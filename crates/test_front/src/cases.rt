@@ -1,5 +1,6 @@
 // The file of cases: headings and texts, a line each.
 
+use c_grammar::TypeNames;
 use std::alloc::Global;
 use test_lines::{Page, put_text};
 use wp_base::{NoMemory, Str};
@@ -47,10 +48,10 @@ impl<'a> Heading<'a> {
     }
 
     /// The typedef names.
-    pub fn types(&self, alloc: Global) -> Result<Vec<Str>, NoMemory> {
-        let mut types = Vec::new(alloc);
+    pub fn types(&self, alloc: Global) -> Result<TypeNames, NoMemory> {
+        let mut types = TypeNames::new(alloc);
         if !self.word.is_empty() {
-            types.push(Str::from_bytes(alloc, self.word.as_bytes())?)?;
+            types.declare(alloc, Str::from_bytes(alloc, self.word.as_bytes())?)?;
         }
         Ok(types)
     }

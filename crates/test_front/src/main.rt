@@ -26,7 +26,7 @@ use c_syntax::{Token, Tokens};
 use std::alloc::Global;
 use std::io;
 use test_lines::{Page, given_text, print_page};
-use wp_base::{List, NoMemory};
+use wp_base::NoMemory;
 
 /// The greatest length of a text.
 const MOST_BYTES: usize = 1_048_576;
@@ -47,15 +47,14 @@ fn answer_tokens(
 ) -> Result<(), NoMemory> {
     let reader = heading.reader;
     let room = heading.room;
-    let types = List::from_vec(heading.types(alloc)?);
-    let names = types.as_slice();
+    let types = heading.types(alloc)?;
     let all = tokens.as_slice();
     let is_known = reads_all(alloc, page, reader, tokens)
-        || reads_type(alloc, page, reader, names, all)
-        || finds_token(page, reader, names, all)
-        || reads_code(alloc, page, reader, room, names, all)
-        || reads_clauses(alloc, page, reader, room, names, all)
-        || reads_logic(alloc, page, reader, room, names, inside(all))
+        || reads_type(alloc, page, reader, &types, all)
+        || finds_token(page, heading, &types, all)
+        || reads_code(alloc, page, reader, room, &types, all)
+        || reads_clauses(alloc, page, reader, room, &types, all)
+        || reads_logic(alloc, page, reader, room, &types, inside(all))
         || reads_place(alloc, page, heading, &types, tokens);
     if !is_known {
         page.put(" no such call");

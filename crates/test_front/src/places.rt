@@ -3,10 +3,11 @@
 use crate::cases::Heading;
 use crate::told::{Shown, tell_stop};
 use acsl_parser::{parse_assert, parse_contract, parse_global, parse_loop};
+use c_grammar::TypeNames;
 use c_syntax::Token;
 use std::alloc::Global;
 use test_lines::Page;
-use wp_base::{List, Stop, Str};
+use wp_base::{List, Stop};
 
 // The tree, and the place behind it.
 fn tell_placed<T: Shown + Drop>(page: &mut Page, answer: Result<(T, usize), Stop>) {
@@ -25,7 +26,7 @@ pub fn reads_place(
     alloc: Global,
     page: &mut Page,
     heading: &Heading<'_>,
-    types: &List<Str>,
+    types: &TypeNames,
     tokens: &List<Token>,
 ) -> bool {
     let place = heading.place as usize;

@@ -1,8 +1,11 @@
 // The calls that read at the front of some tokens.
 
+use crate::cases::Heading;
 use crate::told::{tell, tell_found, tell_left, tell_whether};
 use acsl_parser::{assert_at, contract_at, logic_at, logics_at, loop_at};
-use c_grammar::{Fault, expect, is_type, keyword_at, name_at, new_name_at, punct_at, word_at};
+use c_grammar::{
+    Fault, TypeNames, expect, is_type, keyword_at, name_at, new_name_at, punct_at, word_at,
+};
 use c_syntax::{CType, Punct, Token, Word};
 use parse_decls::{
     declarator_at, enumerators_at, fields_at, linkage_at, params_at, variables_after, variables_at,
@@ -16,7 +19,7 @@ use parse_terms::{
 use parse_types::{stars_at, starts_type, type_at, type_name_at};
 use std::alloc::Global;
 use test_lines::Page;
-use wp_base::{Kind, Str};
+use wp_base::Kind;
 
 // The most forms that may open, one in another.
 const MOST_ROOM: u32 = 200;
@@ -26,7 +29,7 @@ const INT: CType = CType::Kind(Kind::Int);
 // A type and the stars behind it, with `const` among them.
 fn starred_at<'a>(
     alloc: Global,
-    types: &[Str],
+    types: &TypeNames,
     tokens: &'a [Token],
 ) -> Result<(CType, &'a [Token]), Fault> {
     let (base, rest) = type_at(alloc, types, tokens)?;
@@ -38,7 +41,7 @@ pub fn reads_type(
     alloc: Global,
     page: &mut Page,
     reader: &str,
-    types: &[Str],
+    types: &TypeNames,
     tokens: &[Token],
 ) -> bool {
     match reader {
@@ -54,7 +57,7 @@ pub fn reads_type(
 }
 
 // Whether a name is among those that are given.
-fn is_declared(types: &[Str], tokens: &[Token]) -> bool {
+fn is_declared(types: &TypeNames, tokens: &[Token]) -> bool {
     match tokens.split_first() {
         Some((first, _)) => match &first.kind {
             c_syntax::TokenKind::Name(name) => is_type(types, name),
@@ -65,13 +68,14 @@ fn is_declared(types: &[Str], tokens: &[Token]) -> bool {
 }
 
 /// A single token that is looked for; whether there is such a call.
-pub fn finds_token(page: &mut Page, reader: &str, types: &[Str], tokens: &[Token]) -> bool {
-    match reader {
-        "keyword_at" => {
-            for name in types {
-                tell_found(page, keyword_at(name.bytes(), tokens));
-            }
-        }
+pub fn finds_token(
+    page: &mut Page,
+    heading: &Heading<'_>,
+    types: &TypeNames,
+    tokens: &[Token],
+) -> bool {
+    match heading.reader {
+        "keyword_at" => tell_found(page, keyword_at(heading.word.as_bytes(), tokens)),
         "punct_at_semicolon" => tell_found(page, punct_at(Punct::Semicolon, tokens)),
         "expect_semicolon" => tell(page, expect(Punct::Semicolon, tokens)),
         "expect_comma" => tell(page, expect(Punct::Comma, tokens)),
@@ -89,7 +93,7 @@ pub fn reads_code(
     page: &mut Page,
     reader: &str,
     room: u32,
-    types: &[Str],
+    types: &TypeNames,
     tokens: &[Token],
 ) -> bool {
     if room > MOST_ROOM {
@@ -133,7 +137,7 @@ pub fn reads_logic(
     page: &mut Page,
     reader: &str,
     room: u32,
-    types: &[Str],
+    types: &TypeNames,
     tokens: &[Token],
 ) -> bool {
     if room > MOST_ROOM {
@@ -164,7 +168,7 @@ pub fn reads_clauses(
     page: &mut Page,
     reader: &str,
     room: u32,
-    types: &[Str],
+    types: &TypeNames,
     tokens: &[Token],
 ) -> bool {
     let Some((_, here)) = tokens.split_first() else {

@@ -12,6 +12,7 @@ use c_contexts::{
     case_number, condition, constant_number, initialiser, returned, statement, switched,
 };
 use c_exprs::typed_expr;
+use c_grammar::TypeNames;
 use c_kinds::Machdep;
 use c_lexer::lex;
 use c_scopes::Scope;
@@ -156,7 +157,8 @@ fn tell_tokens(
     scope: &Scope,
     tokens: &Tokens,
 ) {
-    match expr_at(alloc, &[], 200, tokens.as_slice()) {
+    let types = TypeNames::new(alloc);
+    match expr_at(alloc, &types, 200, tokens.as_slice()) {
         Ok((expr, rest)) => {
             if rest.is_empty() {
                 tell_expr(alloc, page, model, context, scope, &expr);

@@ -59,9 +59,6 @@ abbrev mutual
   is_address_node or_null (t.apply (op.Offset minus true size accessed) (t.more index (t.more v t.stop))) = is_number index && is_address false v
   is_address_node or_null _ = false
 
-abbrev pub is_address_constant : t.Value → Bool
-is_address_constant v = is_address false v
-
 -- what the initialiser of a variable of the file may be (C11 6.7.9p4)
 abbrev pub is_constant : t.Value → Bool
 is_constant v = is_number v || is_address true v

@@ -6,6 +6,7 @@ mod binders;
 mod chains;
 mod exact;
 mod next;
+mod openings;
 mod parts;
 mod preds;
 mod trees;

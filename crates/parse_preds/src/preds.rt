@@ -1,27 +1,26 @@
 // Predicates (ACSL 2.2): operands, connectives, implications, equivalences and conditionals.
 // Functions call each other once for each form that is open. A quantifier or `\let` is none: the functions read
 // parts, each up to the body of one, and `behind` reads on from part to part.
-ghost use Rattle.std.specs.Prelude.{◌≡◌, ◌≤◌, ◌-◌, length, map, true};
 ghost use Rattle.c_syntax.specs.Pred as r;
-ghost use Rattle.c_syntax.specs.View.{view_pred, view_term, view_var};
+ghost use Rattle.c_syntax.specs.View.{view_pred};
 ghost use Rattle.c_syntax.specs.declared.token.Punct.TheVariants as p;
 ghost use Rattle.c_grammar.specs.Reading.{punct_at as punct_of};
 ghost use Rattle.c_grammar.specs.Views.{Gives};
 ghost use Rattle.parse_preds.specs.Read as spec;
 ghost use Rattle.parse_preds.specs.Parts as part;
-ghost use Rattle.parse_preds.specs.Views.{view_arms, view_form, view_value};
+ghost use Rattle.parse_preds.specs.Views.{view_arms, view_form};
 
 use crate::atoms::{named_at, separated_at, valid_at, valid_read_at};
-use crate::binders::binders_at;
 use crate::chains::chain_at;
 use crate::next::connective_at;
-use crate::parts::{Frame, Part, all_closed, connected_part, equivalent_part, opened};
+use crate::openings::{for_all, for_some, let_in};
+use crate::parts::{Frame, Part, all_closed, connected_part, equivalent_part};
 use crate::trees::{always, either_arm, implied_by, negated, never, not_sooner};
-use c_grammar::{Fault, Read, TypeNames, expect, new_name_at, punct_at};
-use c_syntax::{Pred, Punct, Term, Token, TokenKind, VarDecl, Word};
-use parse_terms::{begins_chain, term_at};
+use c_grammar::{Fault, Read, TypeNames, expect, punct_at};
+use c_syntax::{Pred, Punct, Token, TokenKind, Word};
+use parse_terms::begins_chain;
 use std::alloc::Global;
-use wp_base::{Line, List, Str};
+use wp_base::{Line, List};
 
 // What is read whole: an operand, what `==>` joins, or a whole predicate.
 #[derive(Clone, Copy)]
@@ -29,61 +28,6 @@ enum Form {
     Operand,
     Implied,
     Whole,
-}
-
-// The binders of a quantifier, and a semicolon.
-fn bound_at<'a>(alloc: Global, types: &TypeNames, tokens: &'a [Token]) -> Read<'a, List<VarDecl>>
-    ensures { Gives (map view_var) result (spec.bound_at types.now tokens.now) }
-{
-    let (binders, rest) = binders_at(alloc, types, tokens)?;
-    let (_, rest) = expect(Punct::Semicolon, rest)?;
-    Ok((binders, rest))
-}
-
-// The name of a `\let`, its value, and a semicolon.
-fn value_at<'a>(
-    alloc: Global,
-    types: &TypeNames,
-    room: u32,
-    tokens: &'a [Token],
-) -> Read<'a, (Str, Term)>
-    ensures { Gives view_value result (spec.value_at types.now room tokens.now) }
-{
-    let ((name, _), rest) = new_name_at(alloc, types, tokens)?;
-    let (_, rest) = expect(Punct::Assign, rest)?;
-    let (value, rest) = term_at(alloc, types, room, rest)?;
-    let (_, rest) = expect(Punct::Semicolon, rest)?;
-    Ok(((name, value), rest))
-}
-
-// What comes behind `\forall`, up to its body.
-fn for_all<'a>(alloc: Global, types: &TypeNames, line: Line, tokens: &'a [Token]) -> Read<'a, Part>
-    ensures { Gives part.view_part result (spec.seen_as (λ xs. part.open_before (r.for_all line xs)) (spec.bound_at types.now tokens.now)) }
-{
-    let (binders, rest) = bound_at(alloc, types, tokens)?;
-    Ok((opened(alloc, Frame::Forall(line, binders))?, rest))
-}
-
-// What comes behind `\exists`, up to its body.
-fn for_some<'a>(alloc: Global, types: &TypeNames, line: Line, tokens: &'a [Token]) -> Read<'a, Part>
-    ensures { Gives part.view_part result (spec.seen_as (λ xs. part.open_before (r.for_some line xs)) (spec.bound_at types.now tokens.now)) }
-{
-    let (binders, rest) = bound_at(alloc, types, tokens)?;
-    Ok((opened(alloc, Frame::Exists(line, binders))?, rest))
-}
-
-// What comes behind `\let`, up to its body.
-fn let_in<'a>(
-    alloc: Global,
-    types: &TypeNames,
-    room: u32,
-    line: Line,
-    tokens: &'a [Token],
-) -> Read<'a, Part>
-    ensures { Gives part.view_part result (spec.seen_as (λ x. part.open_before (r.let_in line x.0 x.1)) (spec.value_at types.now room tokens.now)) }
-{
-    let ((name, value), rest) = value_at(alloc, types, room, tokens)?;
-    Ok((opened(alloc, Frame::Let(line, name, value))?, rest))
 }
 
 // A form with one form more open than before.

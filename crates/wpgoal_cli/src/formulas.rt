@@ -20,7 +20,6 @@ fn wrapped(alloc: Global, line: &[u8]) -> Result<Vec<u8>, NoMemory>
 }
 
 /// The formula that has this text.
-
 pub fn read_formula(alloc: Global, line: &[u8]) -> Result<Formula, GoalText>
     ensures read { IfOk result (λ formula. IsTextOf line.now (formula_tree formula)) }
     ensures none { result ≡ Err GoalText.NotAGoal → IsNoFormula line.now }

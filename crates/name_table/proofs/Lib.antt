@@ -1,3 +1,4 @@
 pub mod Tables
 pub mod Declaring
 pub mod Hiding
+pub mod Among

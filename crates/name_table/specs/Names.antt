@@ -1,6 +1,6 @@
 -- Names and what each of them means, in the order of their declarations. A name is declared once in a scope (C11 6.2.1;
 -- narrower than 6.7p3, by which typedefs of one type, tags and names with linkage may be declared again).
-use Rattle.std.specs.Prelude.{ℕ, Bool, List, [], ◌∷◌, ◌++◌, map, Option, Some, None, if◌then◌else◌}
+use Rattle.std.specs.Prelude.{ℕ, Bool, List, [], ◌∷◌, ◌++◌, map, take, Option, Some, None, if◌then◌else◌}
 use Rattle.std.specs.Option.{is_none}
 use Rattle.std.specs.Str.{bytes_eq}
 use Rattle.std.specs.declared.vec.Vec.{Vec}
@@ -12,6 +12,10 @@ Names V = List (List ℕ × V)
 abbrev pub meaning_of : {V : Type 0} → Names V → List ℕ → Option V
 meaning_of [] x = None
 meaning_of (d ∷ ds) x = if bytes_eq x d.0 then Some d.1 else meaning_of ds x
+
+-- what the first so many declarations say of a name
+abbrev pub meaning_among : {V : Type 0} → (count : ℕ) → Names V → List ℕ → Option V
+meaning_among n ds x = meaning_of (take n ds) x
 
 abbrev pub is_free : {V : Type 0} → Names V → List ℕ → Bool
 is_free ds x = is_none (meaning_of ds x)

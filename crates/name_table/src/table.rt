@@ -48,6 +48,16 @@ impl<V: Copy> Table<V> {
         self.entries.get(name.bytes()).copied()
     }
 
+    /// What a name means among the first so many that are declared; none where it isn't one of these.
+    pub fn find_among(&self, count: usize, name: &Str) -> Option<V>
+        ensures { result ≡ spec.meaning_among count self.now name.now }
+    {
+        match self.entries.get_index_of(name.bytes()) {
+            Some(place) => { if place < count { self.find(name) } else { None } }
+            None => None,
+        }
+    }
+
     /// Declares a name behind the others, unless it is declared already; whether it did.
     pub fn declare(&mut self, alloc: Global, name: &Str, meaning: V) -> Result<bool, NoMemory>
         ensures is_new { IfOk result (λ is_new. is_new ≡ spec.is_free self.old name.now) }

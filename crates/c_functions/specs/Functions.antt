@@ -146,7 +146,7 @@ with_stmt c bs g (Some x) = after (body c x) (λ r. Ok (bs ++ body_with r.1 g (d
 
 -- the declaration with its contract, at its place among the names of the file
 abbrev pub part_at : (names tags : ℕ) → Context → d.Function → u.Part
-part_at names tags c g = record { names = names; tags = tags; decl = u.of_function (declared_number c g) c.scope.local.objects g.contract }
+part_at names tags c g = record { names = names; tags = tags; decl = u.of_function (declared_number c g) c.scope.local.objects g.contract (is_some g.body) }
 
 abbrev pub part_of : (before : File) → Context → d.Function → u.Part
 part_of before c g = part_at (length before.names) (length before.tags) c g

@@ -93,7 +93,7 @@ fn part_of<'a>(
     Ok(Part {
         names,
         tags,
-        decl: Annotated::Function(number, params, &function.contract),
+        decl: Annotated::Function(number, params, &function.contract, function.body.is_some()),
     })
 }
 

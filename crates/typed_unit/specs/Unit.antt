@@ -19,7 +19,7 @@ pub record Body : Type 0 where
 
 -- a declaration that may hold annotations
 pub data Annotated : Type 0 where
-  of_function : (number : ℕ) (params : List Object) (contract : Contract) → Annotated
+  of_function : (number : ℕ) (params : List Object) (contract : Contract) (has_body : Bool) → Annotated
   of_logic : (d : LogicDecl) → Annotated
 
 -- such a declaration, with the number of ordinary names and of tags that are declared before it

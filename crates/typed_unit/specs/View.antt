@@ -57,7 +57,7 @@ abbrev pub view_body : Body → u.Body
 view_body x = record { function = x.function; locals = x.locals; plain = x.plain; stmt = view_stmt x.stmt; line = x.line; end = x.end }
 
 abbrev pub view_annotated : Annotated → u.Annotated
-view_annotated (annotated.Function number params contract) = u.of_function number params (view_contract contract.now)
+view_annotated (annotated.Function number params contract has_body) = u.of_function number params (view_contract contract.now) has_body
 view_annotated (annotated.Logic d) = u.of_logic (view_logic d.now)
 
 abbrev pub view_part : Part → u.Part

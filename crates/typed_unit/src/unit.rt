@@ -25,8 +25,8 @@ pub struct Body<'a> {
 /// A declaration that may hold annotations, which are those of the program as spelled.
 #[derive(Drop)]
 pub enum Annotated<'a> {
-    /// A declaration of the function with this number: its own parameters, and its contract.
-    Function(u32, List<Object>, &'a Contract),
+    /// A declaration of the function with this number: its own parameters, its contract, and whether its body stands here.
+    Function(u32, List<Object>, &'a Contract, bool),
     /// The definition of a predicate or of a logic function.
     Logic(&'a LogicDecl),
 }

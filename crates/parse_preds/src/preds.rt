@@ -1,6 +1,7 @@
 // Predicates (ACSL 2.2): operands, connectives, implications, equivalences and conditionals.
 // Functions call each other once for each form that is open. A quantifier or `\let` is none: the functions read
 // parts, each up to the body of one, and `behind` reads on from part to part.
+ghost use Rattle.std.specs.Prelude.{◌≤◌};
 ghost use Rattle.c_syntax.specs.Pred as r;
 ghost use Rattle.c_syntax.specs.View.{view_pred};
 ghost use Rattle.c_syntax.specs.declared.token.Punct.TheVariants as p;

@@ -1,0 +1,15 @@
+pub mod Turning
+pub mod TermParts
+pub mod Searching
+pub mod PredParts
+pub mod Calling
+pub mod Between
+pub mod Taking
+pub mod Gathered
+pub mod Last
+pub mod Picking
+pub mod Holding
+pub mod Ruling
+pub mod Chained
+pub mod Bounded
+pub mod Ranged

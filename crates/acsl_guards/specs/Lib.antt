@@ -1,0 +1,7 @@
+pub mod Mentions
+pub mod Chains
+pub mod Guarding
+pub mod Parts
+pub mod Recursive
+pub mod Rules
+pub mod Meaning

@@ -1,0 +1,4 @@
+pub mod Names
+pub mod Labels
+pub mod Counting
+pub mod Weights

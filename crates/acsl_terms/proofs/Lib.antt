@@ -1,0 +1,4 @@
+pub mod Arguments
+pub mod Closing
+pub mod Listed
+pub mod Naming

@@ -1,0 +1,4 @@
+pub mod Leaves
+pub mod Steps
+pub mod Calls
+pub mod Terms

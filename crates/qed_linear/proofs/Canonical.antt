@@ -3,14 +3,11 @@ use Rattle.std.proofs.Common.{◌≡◌, Bool, true, false, ◌&&◌, cond, ℤ,
 use Rattle.std.proofs.lemmas.Int.{ints}
 use Rattle.std.proofs.Math.IntN.{*ℤ_comm, *ℤ-zero, *ℤ-one, one}
 use Rattle.std.specs.Prelude.{Some, None}
-use Rattle.qed_terms.specs.declared.head.Head.{Head}
-use Rattle.qed_terms.specs.declared.head.Head.TheVariants as h
-use Rattle.qed_terms.specs.declared.head.TermOp.{TermOp}
 use Rattle.qed_terms.specs.declared.head.TermOp.TheVariants as op
 use Rattle.qed_terms.specs.Tree.{Tree, head_of, num}
 use Rattle.qed_terms.specs.Operators.{is_zero}
 use Rattle.qed_terms.specs.Order.{tree_cmp}
-use Rattle.qed_linear.specs.Linear.{fits, Part, Lin, part, lin, number, atom_lin, is_number, at_order, cons_nonzero, add_part, add_parts, add, add_all, scale_parts, scale, subtract, is_integer, parts_fit, checked, number_product, other_factors, fitted, product_of, product_form, op_form, head_form, or_atom, to_lin}
+use Rattle.qed_linear.specs.Linear.{fits, Part, Lin, part, lin, number, atom_lin, at_order, cons_nonzero, add_part, add_parts, add, add_all, scale_parts, scale, subtract, is_integer, parts_fit, checked, fitted, product_of, op_form, or_atom, to_lin}
 use Rattle.qed_linear.proofs.Facts.{and_left, and_right, zero_is, no_zero}
 use Rattle.std.specs.Ordering.{ordering_reverse}
 use Rattle.qed_terms.proofs.Total.{tree_total}
@@ -120,7 +117,7 @@ module _ (IsAtom : Tree → Type 0) where
       go r Equal k = cons_canonical (p.atom) (c +ℤ p.times) ps g.0 g.2 g.3
       go r Greater k = (g.0, g.1, add_part_after (p.atom) a c ps (tree_reversed a (p.atom) k) g.2, r)
 
-  add_parts_canonical : (ps qs : List Part) → PartsOver ps → PartsOver qs → PartsOver (add_parts ps qs)
+  pub add_parts_canonical : (ps qs : List Part) → PartsOver ps → PartsOver qs → PartsOver (add_parts ps qs)
   add_parts_canonical [] qs g k = k
   add_parts_canonical (p ∷ ps) qs g k = add_part_canonical (p.atom) (p.times) (add_parts ps qs) g.0 (add_parts_canonical ps qs g.3 k)
 
@@ -138,10 +135,6 @@ module _ (IsAtom : Tree → Type 0) where
 
   abbrev pub FormOver : Lin → Type 0
   FormOver f = PartsOver (f.parts) × (parts_fit (f.parts) ≡ true) × (fits (f.constant) ≡ true)
-
-  abbrev pub FormsOver : List Lin → Type 0
-  FormsOver [] = Unit {0}
-  FormsOver (f ∷ fs) = PartsOver (f.parts) × FormsOver fs
 
   pub checked_canonical : (f g : Lin) → PartsOver (f.parts) → checked f ≡ Some g → FormOver g × (f ≡ g)
   checked_canonical f g k e = go (parts_fit (f.parts) && fits (f.constant)) refl e
@@ -163,46 +156,3 @@ module _ (IsAtom : Tree → Type 0) where
 
   pub subtract_canonical : (f g : Lin) → PartsOver (f.parts) → PartsOver (g.parts) → PartsOver ((subtract f g).parts)
   subtract_canonical f g k l = add_parts_canonical (f.parts) ((scale (negsuc 0) g).parts) k (scale_canonical (negsuc 0) g l)
-
-  add_all_canonical : (fs : List Lin) → FormsOver fs → PartsOver ((add_all fs).parts)
-  add_all_canonical [] g = tt
-  add_all_canonical (f ∷ fs) g = add_parts_canonical (f.parts) ((add_all fs).parts) g.0 (add_all_canonical fs g.1)
-
-  others_canonical : (fs : List Lin) → FormsOver fs → FormsOver (other_factors fs)
-  others_canonical [] k = tt
-  others_canonical (f ∷ fs) k = go (is_number f) (others_canonical fs k.1)
-    where
-      go : (b : Bool) → FormsOver (other_factors fs) → FormsOver (cond b (other_factors fs) (f ∷ other_factors fs))
-      go true r = r
-      go false r = (k.0, r)
-
-  number_canonical : (c : ℤ) → fits c ≡ true → FormOver (number c)
-  number_canonical c k = (tt, refl, k)
-
-  product_canonical : (c : ℤ) (gs : List Lin) (g : Lin) → fits c ≡ true → FormsOver gs → product_of (Some c) gs ≡ Some g → FormOver g
-  product_canonical c [] g k h e = let same : number c ≡ g = cc in subst FormOver same (number_canonical c k)
-  product_canonical c (f ∷ []) g k h e = (checked_canonical (scale c f) g (scale_canonical c f h.0) e).0
-  product_canonical c (f ∷ f' ∷ fs) g k h e = go (is_zero c) e
-    where
-      go : (b : Bool) → cond b (Some (number (pos 0))) None ≡ Some g → FormOver g
-      go true q = let same : number (pos 0) ≡ g = cc in subst FormOver same (number_canonical (pos 0) fits_zero)
-      go false q = absurd cc
-
-  product_form_canonical : (fs : List Lin) (g : Lin) → FormsOver fs → product_form fs ≡ Some g → FormOver g
-  product_form_canonical fs g k e = go (fits (number_product fs)) refl e
-    where
-      go : (b : Bool) → fits (number_product fs) ≡ b → product_of (cond b (Some (number_product fs)) None) (other_factors fs) ≡ Some g → FormOver g
-      go true f q = product_canonical (number_product fs) (other_factors fs) g f (others_canonical fs k) q
-      go false f q = absurd cc
-
-  op_form_canonical : (o : TermOp) (fs : List Lin) (g : Lin) → FormsOver fs → op_form o fs ≡ Some g → FormOver g
-  op_form_canonical op.Add fs g k e = (checked_canonical (add_all fs) g (add_all_canonical fs k) e).0
-  op_form_canonical op.Sub (f ∷ f' ∷ []) g k e = (checked_canonical (subtract f f') g (subtract_canonical f f' k.0 k.1.0) e).0
-  op_form_canonical op.Mul fs g k e = product_form_canonical fs g k e
-  op_form_canonical op.Neg (f ∷ []) g k e = (checked_canonical (scale (negsuc 0) f) g (scale_canonical (negsuc 0) f k.0) e).0
-  op_form_canonical o fs g k e = absurd cc
-
-  pub head_form_canonical : (head : Head) (fs : List Lin) (g : Lin) → FormsOver fs → head_form head fs ≡ Some g → FormOver g
-  head_form_canonical (h.Num z) fs g k e = (checked_canonical (number z) g tt e).0
-  head_form_canonical (h.Term o) fs g k e = op_form_canonical o fs g k e
-  head_form_canonical head fs g k e = absurd cc

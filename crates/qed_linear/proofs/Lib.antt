@@ -4,6 +4,8 @@ pub mod Divisors
 pub mod Factors
 pub mod Facts
 pub mod Fitting
+pub mod Gathered
+pub mod Multiplied
 pub mod OwnForms
 pub mod Places
 pub mod Ring

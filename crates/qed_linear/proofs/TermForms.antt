@@ -1,6 +1,6 @@
 -- The forms of terms by their variants.
 use Rattle.std.proofs.Common.{◌≡◌, ◌<◌, true, false, ℤ, List, [], ◌∷◌, map, length, refl, sym, ◌∙◌, ap, arith, FitsSigned}
-use Rattle.std.specs.Prelude.{Option, None}
+use Rattle.std.specs.Prelude.{Option}
 use Rattle.std.specs.Int.{w128}
 use Rattle.qed_terms.specs.declared.head.TermOp.{TermOp}
 use Rattle.qed_terms.specs.declared.term.Term.{Term}

@@ -10,13 +10,14 @@ use Rattle.qed_terms.specs.declared.head.Head.{Head}
 use Rattle.qed_terms.specs.declared.head.Head.TheVariants as h
 use Rattle.qed_terms.specs.declared.head.TermOp.{TermOp}
 use Rattle.qed_terms.specs.declared.head.TermOp.TheVariants as op
-use Rattle.qed_terms.specs.Tree.{Tree, node, Trees, stop, more, trees_of, two, num}
+use Rattle.qed_terms.specs.Tree.{Tree, node, Trees, stop, more, trees_of, list_of, two, num}
 use Rattle.qed_terms.specs.Operators.{is_zero, is_equal, total, product}
 use Rattle.qed_terms.specs.Meaning.{World, Values, whole, value, meanings, term_value}
 use Rattle.qed_terms.specs.Order.{tree_cmp}
-use Rattle.qed_linear.specs.Linear.{fits, Part, Lin, part, lin, number, is_number, part_tree, constant_trees, sum_tree, of_lin, at_order, cons_nonzero, add_part, add_parts, add_all, scale_parts, scale, subtract, parts_fit, checked, number_product, other_factors, product_of, product_form, op_form, head_form, or_atom, to_lin, to_lins, common_divisor, divide_parts, rounded_up, divides, tighten, divide_exact, make_lead_positive, lead_is_negative, unwrap_or}
+use Rattle.qed_linear.specs.Linear.{fits, Part, Lin, part, lin, number, is_number, part_tree, constant_trees, sum_tree, of_lin, at_order, cons_nonzero, add_part, add_parts, add_all, scale_parts, scale, subtract, parts_fit, checked, number_product, other_factors, fitted, are_several, are_factors, factors_of, times_of, factor_trees, times_product, insert_factor, insert_factors, sorted_factors, product_tree, product_part, product_of, product_form, op_form, head_form, or_atom, to_lin, to_lins, common_divisor, divide_parts, rounded_up, divides, tighten, divide_exact, make_lead_positive, lead_is_negative, unwrap_or}
 use Rattle.qed_linear.proofs.Facts.{zero_is, equal_is}
 use Rattle.qed_terms.proofs.Total.{tree_exact}
+use Rattle.qed_terms.proofs.Lists.{trees_of-list_of}
 use Rattle.qed_linear.proofs.Ring.{sum_times, times_sum, product_times, times_one, one_times}
 use Rattle.qed_linear.proofs.Rounding.{exact_back, up_is, scale_down, scale_below, scale_zero, abs_below, same_le, zero_negated}
 use Rattle.qed_linear.proofs.Canonical.{PartsOver}
@@ -99,10 +100,115 @@ module _ (world : World) (env : Values) where
       go [] q = omega (arith, ints)
       go (p ∷ ps) q = absurd cc
 
-  -- ---- the form of a term
-
   abbrev kids_value : Trees → List ℤ
   kids_value ts = map whole (meanings world env ts)
+
+  -- ---- the term of a form
+
+  part_value : (p : Part) → V (part_tree p) ≡ p.times *ℤ V (p.atom)
+  part_value p = go (is_equal (p.times) (pos 1)) refl
+    where
+      go : (b : Bool) → is_equal (p.times) (pos 1) ≡ b → V (cond b (p.atom) (node (h.Term op.Mul) (two (num (p.times)) (p.atom)))) ≡ p.times *ℤ V (p.atom)
+      go true k = sym (ap (λ c. c *ℤ V (p.atom)) (equal_is (p.times) (pos 1) k) ∙ one_times (V (p.atom)))
+      go false k = ap (λ z. p.times *ℤ z) (times_one (V (p.atom)))
+
+  abbrev list_value : List Tree → ℤ
+  list_value ts = total (kids_value (trees_of ts))
+
+  constant_value : (c : ℤ) → list_value (constant_trees c) ≡ c
+  constant_value c = go (is_zero c) refl
+    where
+      go : (b : Bool) → is_zero c ≡ b → list_value (cond b [] (num c ∷ [])) ≡ c
+      go true k = sym (zero_is c k)
+      go false k = omega (arith, ints)
+
+  parts_total : (ps : List Part) (c : ℤ) → list_value (map part_tree ps ++ constant_trees c) ≡ parts_value ps +ℤ c
+  parts_total [] c = let k = constant_value c in omega (arith, ints, k)
+  parts_total (p ∷ ps) c = let a = part_value p in let b = parts_total ps c in omega (arith, ints, a, b)
+
+  sum_tree_value : (ts : List Tree) → V (sum_tree ts) ≡ list_value ts
+  sum_tree_value [] = refl
+  sum_tree_value (t ∷ []) = omega (arith, ints)
+  sum_tree_value (t ∷ u ∷ ts) = refl
+
+  pub of_lin_value : (f : Lin) → V (of_lin f) ≡ value_of f
+  of_lin_value f = sum_tree_value (map part_tree (f.parts) ++ constant_trees (f.constant)) ∙ parts_total (f.parts) (f.constant)
+
+  -- ---- products of several factors
+
+  abbrev all_value : List Tree → ℤ
+  all_value [] = pos 1
+  all_value (t ∷ ts) = V t *ℤ all_value ts
+
+  product_tree_value : (ts : List Tree) → V (product_tree ts) ≡ all_value ts
+  product_tree_value ts = go ts
+    where
+      go : (us : List Tree) → product (kids_value (trees_of us)) ≡ all_value us
+      go [] = refl
+      go (u ∷ us) = ap (λ z. V u *ℤ z) (go us)
+
+  swapped : (a b c : ℤ) → a *ℤ (b *ℤ c) ≡ b *ℤ (a *ℤ c)
+  swapped a b c = sym (product_times a b c) ∙ ap (λ x. x *ℤ c) (*ℤ_comm a b) ∙ product_times b a c
+
+  crossed : (a b c d : ℤ) → (a *ℤ b) *ℤ (c *ℤ d) ≡ (b *ℤ c) *ℤ (a *ℤ d)
+  crossed a b c d = ap (λ x. x *ℤ (c *ℤ d)) (*ℤ_comm a b) ∙ product_times b a (c *ℤ d) ∙ ap (λ x. b *ℤ x) (swapped a c d) ∙ sym (product_times b c (a *ℤ d))
+
+  factors_value : (t : Tree) → all_value (factors_of t) ≡ V t
+  factors_value (node (h.Term op.Mul) ts) = go (are_several ts && are_factors ts)
+    where
+      go : (b : Bool) → all_value (cond b (list_of ts) (node (h.Term op.Mul) ts ∷ [])) ≡ V (node (h.Term op.Mul) ts)
+      go true = sym (product_tree_value (list_of ts)) ∙ ap (λ us. V (node (h.Term op.Mul) us)) (trees_of-list_of ts)
+      go false = times_one (V (node (h.Term op.Mul) ts))
+  factors_value t = times_one (V t)
+
+  insert_value : (t : Tree) (us : List Tree) → all_value (insert_factor t us) ≡ V t *ℤ all_value us
+  insert_value t [] = refl
+  insert_value t (u ∷ us) = go (tree_cmp t u) (insert_value t us)
+    where
+      go : (o : Ordering) → all_value (insert_factor t us) ≡ V t *ℤ all_value us → all_value (at_order o (t ∷ u ∷ us) (t ∷ u ∷ us) (u ∷ insert_factor t us)) ≡ V t *ℤ (V u *ℤ all_value us)
+      go Less r = refl
+      go Equal r = refl
+      go Greater r = ap (λ z. V u *ℤ z) r ∙ swapped (V u) (V t) (all_value us)
+
+  inserts_value : (ts us : List Tree) → all_value (insert_factors ts us) ≡ all_value ts *ℤ all_value us
+  inserts_value [] us = sym (one_times (all_value us))
+  inserts_value (t ∷ ts) us = insert_value t (insert_factors ts us) ∙ ap (λ z. V t *ℤ z) (inserts_value ts us) ∙ sym (product_times (V t) (all_value ts) (all_value us))
+
+  times_value : (f : Lin) → times_of f *ℤ all_value (factor_trees f) ≡ value_of f
+  times_value f = at (f.parts) (f.constant)
+    where
+      as_whole : (g : Lin) → pos 1 *ℤ (V (of_lin g) *ℤ pos 1) ≡ value_of g
+      as_whole g = one_times (V (of_lin g) *ℤ pos 1) ∙ times_one (V (of_lin g)) ∙ of_lin_value g
+
+      at : (ps : List Part) (c : ℤ) → times_of (lin ps c) *ℤ all_value (factor_trees (lin ps c)) ≡ value_of (lin ps c)
+      at [] c = as_whole (lin [] c)
+      at (p ∷ q ∷ ps) c = as_whole (lin (p ∷ q ∷ ps) c)
+      at (p ∷ []) c = go (is_zero c) refl
+        where
+          go : (b : Bool) → is_zero c ≡ b → cond b (p.times) (pos 1) *ℤ all_value (cond b (factors_of (p.atom)) (of_lin (lin (p ∷ []) c) ∷ [])) ≡ value_of (lin (p ∷ []) c)
+          go true z = let e = ap (λ x. p.times *ℤ x) (factors_value (p.atom)) in let n = zero_is c z in omega (arith, ints, e, n)
+          go false z = as_whole (lin (p ∷ []) c)
+
+  several_value : (gs : List Lin) → times_product gs *ℤ all_value (sorted_factors gs) ≡ product (map value_of gs)
+  several_value [] = refl
+  several_value (f ∷ fs) =
+      let a = times_value f in
+      let b = several_value fs in
+      ap (λ z. (times_product fs *ℤ times_of f) *ℤ z) (inserts_value (factor_trees f) (sorted_factors fs))
+      ∙ crossed (times_product fs) (times_of f) (all_value (factor_trees f)) (all_value (sorted_factors fs)) ∙ (λ i. a i *ℤ b i)
+
+  part_value_of : (z : ℤ) (ts : List Tree) (g : Lin) → product_part (fitted z) ts ≡ Some g → value_of g ≡ z *ℤ all_value ts
+  part_value_of z ts g k = go (fits z) k
+    where
+      go : (b : Bool) → product_part (cond b (Some z) None) ts ≡ Some g → value_of g ≡ z *ℤ all_value ts
+      go true q =
+          let same : lin (part (product_tree ts) z ∷ []) (pos 0) ≡ g = cc in
+          let e = ap (λ x. z *ℤ x) (product_tree_value ts) in
+          let v : value_of (lin (part (product_tree ts) z ∷ []) (pos 0)) ≡ z *ℤ all_value ts = omega (arith, ints, e) in
+          ap value_of (sym same) ∙ v
+      go false q = absurd cc
+
+  -- ---- the form of a term
 
   split_product : (fs : List Lin) → product (map value_of fs) ≡ number_product fs *ℤ product (map value_of (other_factors fs))
   split_product [] = refl
@@ -123,11 +229,14 @@ module _ (world : World) (env : Values) where
   product_of_value c (f ∷ []) g k = checked_value (scale c f) g k ∙ scale_value c f ∙ ap (λ x. c *ℤ x) (sym (times_one (value_of f)))
   product_of_value c (f ∷ f' ∷ fs) g k = go (is_zero c) refl k
     where
-      go : (b : Bool) → is_zero c ≡ b → cond b (Some (number (pos 0))) None ≡ Some g → value_of g ≡ c *ℤ product (map value_of (f ∷ f' ∷ fs))
+      go : (b : Bool) → is_zero c ≡ b → cond b (Some (number (pos 0))) (product_part (fitted (times_product (f ∷ f' ∷ fs) *ℤ c)) (sorted_factors (f ∷ f' ∷ fs))) ≡ Some g → value_of g ≡ c *ℤ product (map value_of (f ∷ f' ∷ fs))
       go true e q =
           let same : number (pos 0) ≡ g = cc in
           ap value_of (sym same) ∙ number_value (number (pos 0)) refl ∙ sym (ap (λ x. x *ℤ product (map value_of (f ∷ f' ∷ fs))) (zero_is c e) ∙ zero-*ℤ (product (map value_of (f ∷ f' ∷ fs))))
-      go false e q = absurd cc
+      go false e q =
+          let t = times_product (f ∷ f' ∷ fs) in
+          let a = all_value (sorted_factors (f ∷ f' ∷ fs)) in
+          part_value_of (t *ℤ c) (sorted_factors (f ∷ f' ∷ fs)) g q ∙ ap (λ x. x *ℤ a) (*ℤ_comm t c) ∙ product_times c t a ∙ ap (λ x. c *ℤ x) (several_value (f ∷ f' ∷ fs))
 
   product_form_value : (fs : List Lin) (g : Lin) → product_form fs ≡ Some g → value_of g ≡ product (map value_of fs)
   product_form_value fs g k = go (fits (number_product fs)) k
@@ -167,37 +276,6 @@ module _ (world : World) (env : Values) where
 
   pub head_form_value : (head : Head) (ts : Trees) (g : Lin) → head_form head (to_lins ts) ≡ Some g → value_of g ≡ V (node head ts)
   head_form_value head ts g k = head_value_from head ts g (to_lins_value ts) k
-
-  -- ---- the term of a form
-
-  part_value : (p : Part) → V (part_tree p) ≡ p.times *ℤ V (p.atom)
-  part_value p = go (is_equal (p.times) (pos 1)) refl
-    where
-      go : (b : Bool) → is_equal (p.times) (pos 1) ≡ b → V (cond b (p.atom) (node (h.Term op.Mul) (two (num (p.times)) (p.atom)))) ≡ p.times *ℤ V (p.atom)
-      go true k = sym (ap (λ c. c *ℤ V (p.atom)) (equal_is (p.times) (pos 1) k) ∙ one_times (V (p.atom)))
-      go false k = ap (λ z. p.times *ℤ z) (times_one (V (p.atom)))
-
-  abbrev list_value : List Tree → ℤ
-  list_value ts = total (kids_value (trees_of ts))
-
-  constant_value : (c : ℤ) → list_value (constant_trees c) ≡ c
-  constant_value c = go (is_zero c) refl
-    where
-      go : (b : Bool) → is_zero c ≡ b → list_value (cond b [] (num c ∷ [])) ≡ c
-      go true k = sym (zero_is c k)
-      go false k = omega (arith, ints)
-
-  parts_total : (ps : List Part) (c : ℤ) → list_value (map part_tree ps ++ constant_trees c) ≡ parts_value ps +ℤ c
-  parts_total [] c = let k = constant_value c in omega (arith, ints, k)
-  parts_total (p ∷ ps) c = let a = part_value p in let b = parts_total ps c in omega (arith, ints, a, b)
-
-  sum_tree_value : (ts : List Tree) → V (sum_tree ts) ≡ list_value ts
-  sum_tree_value [] = refl
-  sum_tree_value (t ∷ []) = omega (arith, ints)
-  sum_tree_value (t ∷ u ∷ ts) = refl
-
-  pub of_lin_value : (f : Lin) → V (of_lin f) ≡ value_of f
-  of_lin_value f = sum_tree_value (map part_tree (f.parts) ++ constant_trees (f.constant)) ∙ parts_total (f.parts) (f.constant)
 
   -- ---- the form divided
 

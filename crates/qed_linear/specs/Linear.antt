@@ -7,7 +7,7 @@ use Rattle.qed_terms.specs.declared.head.Head.TheVariants as h
 use Rattle.qed_terms.specs.declared.head.TermOp.{TermOp}
 use Rattle.qed_terms.specs.declared.head.TermOp.TheVariants as op
 use Rattle.qed_terms.specs.declared.head.Sort.TheVariants as sort
-use Rattle.qed_terms.specs.Tree.{Tree, node, Trees, stop, more, trees_of, head_of, two, num}
+use Rattle.qed_terms.specs.Tree.{Tree, node, Trees, stop, more, trees_of, list_of, head_of, kids_in, two, num}
 use Rattle.qed_terms.specs.Operators.{is_zero, is_equal}
 use Rattle.qed_terms.specs.WellFormed.{same_sort, made_by}
 use Rattle.qed_terms.specs.Order.{tree_cmp}
@@ -130,12 +130,84 @@ other_factors (f ∷ fs) = if is_number f then other_factors fs else f ∷ other
 abbrev pub fitted : ℤ → Option ℤ
 fitted z = if fits z then Some z else None
 
--- a number times these: a multiple of one of them, and 0 of any where the number is 0
+-- ---- products of several factors: a number times an atom, of which the factors stand in order
+
+-- the heads of the terms that stand in a product as they are
+abbrev pub is_factor : Head → Bool
+is_factor (h.Num z) = false
+is_factor (h.Term op.Mul) = false
+is_factor head = true
+
+abbrev pub are_factors : Trees → Bool
+are_factors stop = true
+are_factors (more t ts) = is_factor (head_of t) && are_factors ts
+
+abbrev pub are_several : Trees → Bool
+are_several (more t (more u ts)) = true
+are_several ts = false
+
+-- a product that has neither numbers nor products among its factors
+abbrev pub is_product : Tree → Bool
+is_product (node (h.Term op.Mul) ts) = are_several ts && are_factors ts
+is_product t = false
+
+-- the factors of an atom
+abbrev pub factors_of : Tree → List Tree
+factors_of t = if is_product t then list_of (kids_in t) else t ∷ []
+
+abbrev pub is_one_part : List Part → Bool
+is_one_part (p ∷ []) = true
+is_one_part ps = false
+
+-- whether a form is a number times an atom
+abbrev pub is_single : Lin → Bool
+is_single f = is_one_part (f.parts) && is_zero (f.constant)
+
+abbrev pub first_times : List Part → ℤ
+first_times [] = pos 1
+first_times (p ∷ ps) = p.times
+
+abbrev pub first_factors : List Part → List Tree
+first_factors [] = []
+first_factors (p ∷ ps) = factors_of (p.atom)
+
+-- the number of such a form and the factors of its atom; any other form is one factor
+abbrev pub times_of : Lin → ℤ
+times_of f = if is_single f then first_times (f.parts) else pos 1
+
+abbrev pub factor_trees : Lin → List Tree
+factor_trees f = if is_single f then first_factors (f.parts) else of_lin f ∷ []
+
+abbrev pub times_product : List Lin → ℤ
+times_product [] = pos 1
+times_product (f ∷ fs) = times_product fs *ℤ times_of f
+
+-- a factor in its place
+abbrev pub insert_factor : Tree → List Tree → List Tree
+insert_factor t [] = t ∷ []
+insert_factor t (u ∷ us) = at_order (tree_cmp t u) (t ∷ u ∷ us) (t ∷ u ∷ us) (u ∷ insert_factor t us)
+
+abbrev pub insert_factors : List Tree → List Tree → List Tree
+insert_factors [] us = us
+insert_factors (t ∷ ts) us = insert_factor t (insert_factors ts us)
+
+abbrev pub sorted_factors : List Lin → List Tree
+sorted_factors [] = []
+sorted_factors (f ∷ fs) = insert_factors (factor_trees f) (sorted_factors fs)
+
+abbrev pub product_tree : List Tree → Tree
+product_tree ts = node (h.Term op.Mul) (trees_of ts)
+
+abbrev pub product_part : Option ℤ → List Tree → Option Lin
+product_part None ts = None
+product_part (Some z) ts = Some (lin (part (product_tree ts) z ∷ []) (pos 0))
+
+-- a number times these: a multiple of one of them, or of the product of several, and 0 where the number is 0
 abbrev pub product_of : Option ℤ → List Lin → Option Lin
 product_of None gs = None
 product_of (Some c) [] = Some (number c)
 product_of (Some c) (g ∷ []) = checked (scale c g)
-product_of (Some c) (g ∷ h ∷ gs) = if is_zero c then Some (number (pos 0)) else None
+product_of (Some c) (g ∷ h ∷ gs) = if is_zero c then Some (number (pos 0)) else product_part (fitted (times_product (g ∷ h ∷ gs) *ℤ c)) (sorted_factors (g ∷ h ∷ gs))
 
 abbrev pub product_form : List Lin → Option Lin
 product_form fs = product_of (fitted (number_product fs)) (other_factors fs)

@@ -1,5 +1,5 @@
 -- The forms and the sums that the program holds, as plain ones.
-use Rattle.std.specs.Prelude.{◌≡◌, ℕ, ◌+◌, ◌^◌, ◌≤◌, slice_index_or, unsigned_abs, Bool, true, false, ℤ, pos, negsuc, ◌+ℤ◌, ◌*ℤ◌, if◌then◌else◌, List, [], ◌∷◌, ◌++◌, map, take, drop, option_map, Option, Some, None, Result, Ok, Err}
+use Rattle.std.specs.Prelude.{◌≡◌, ℕ, suc, ◌+◌, ◌^◌, ◌≤◌, slice_index_or, unsigned_abs, Bool, true, false, ℤ, pos, negsuc, ◌+ℤ◌, ◌*ℤ◌, if◌then◌else◌, List, [], ◌∷◌, ◌++◌, map, take, drop, option_map, Option, Some, None, Result, Ok, Err}
 use Rattle.qed_terms.specs.View.{term_tree}
 use Rattle.qed_linear.specs.declared.wide.Wide.{Wide}
 use Rattle.qed_linear.specs.declared.forms.LinPart.{LinPart}
@@ -13,7 +13,9 @@ use Rattle.qed_linear.specs.declared.products.Others.{Others}
 use Rattle.qed_linear.specs.declared.products.Others.TheVariants as others
 use Rattle.qed_linear.specs.declared.sums.WidePart.{WidePart}
 use Rattle.qed_linear.specs.declared.sums.WideForm.{WideForm}
-use Rattle.qed_linear.specs.Linear.{fits, Part, Lin, part, lin, cons_nonzero, scale}
+use Rattle.qed_terms.specs.Tree.{Tree}
+use Rattle.qed_terms.specs.Order.{tree_cmp}
+use Rattle.qed_linear.specs.Linear.{fits, Part, Lin, part, lin, at_order, cons_nonzero, scale}
 
 abbrev pub part_of : LinPart → Part
 part_of p = part (term_tree p.atom) p.times
@@ -70,6 +72,11 @@ abbrev pub IsAddedAt : List WidePart → ℕ → ℤ → List WidePart → Type 
 IsAddedAt ps i c qs = (p : WidePart) → p ≡ slice_index_or ps i p → wide_parts qs ≡ wide_parts (take i ps) ++ cons_nonzero (term_tree p.atom) (c +ℤ wide_value p.times) (wide_parts (drop (i + 1) ps))
 
 -- ---- products
+
+-- how many factors stand before the place of a factor
+abbrev pub place : Tree → List Tree → ℕ
+place t [] = 0
+place t (u ∷ us) = at_order (tree_cmp t u) 0 0 (suc (place t us))
 
 -- a number by its sign and its size
 abbrev pub sized : (negative : Bool) → ℕ → ℤ

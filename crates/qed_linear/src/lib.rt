@@ -4,6 +4,7 @@
 mod calls;
 mod divide;
 mod forms;
+mod ordered;
 mod products;
 mod sums;
 mod terms;

@@ -1,12 +1,15 @@
 // Products: of any size of numbers of 128 bits, and of forms.
-ghost use Rattle.std.specs.Prelude.{◌≡◌, ◌*ℤ◌, true, false, ℤ, pos, List, ◌∷◌, map, option_map, if◌then◌else◌, IfOk};
-ghost use Rattle.qed_linear.specs.Linear.{Lin, is_number, number_product, other_factors, fitted, product_form};
+ghost use Rattle.std.specs.Prelude.{◌≡◌, ◌*ℤ◌, true, false, ℤ, pos, List, [], ◌∷◌, map, option_map, if◌then◌else◌, IfOk};
+ghost use Rattle.qed_terms.specs.View.{term_tree};
+ghost use Rattle.qed_linear.specs.Linear.{Lin, lin, part, is_number, number_product, other_factors, fitted, times_of, times_product, sorted_factors, product_tree, product_part, product_form};
 ghost use Rattle.qed_linear.specs.View.{lin_of, sized, IsProduct, AreOthers};
 
-use crate::forms::{LinForm, number};
+use crate::forms::{LinForm, LinPart, number};
+use crate::ordered::{sorted_factors, times_of};
 use crate::sums::scaled;
+use qed_terms::{Term, TermOp};
 use std::alloc::Global;
-use wp_base::NoMemory;
+use wp_base::{List, NoMemory};
 
 // ---- products of numbers
 
@@ -129,7 +132,57 @@ fn other_factors(forms: &[LinForm]) -> Others<'_>
     others
 }
 
-/// The product of forms: numbers times one form at most, or 0 times any; none where it isn't such or doesn't fit.
+fn with_times(product: Product, form: &LinForm) -> Product
+    ensures { (z : ℤ) → IsProduct product z → IsProduct result (if is_number (lin_of form.now) then z else z *ℤ times_of (lin_of form.now)) }
+{
+    if form.parts.is_empty() {
+        return product;
+    }
+    times(product, times_of(form))
+}
+
+// The number before several factors, where it fits.
+fn times_product(by: i128, forms: &[LinForm]) -> Option<i128>
+    ensures { result ≡ fitted (times_product (other_factors (map lin_of forms.now)) *ℤ by) }
+{
+    let mut product = Product::Within(false, 1);
+    let mut left = forms.len();
+    while left > 0 {
+        left -= 1;
+        product = with_times(product, &forms[left]);
+    }
+    narrow(times(product, by))
+}
+
+// A number times the product of these.
+#[tactic(auto, using(qed_terms::proofs::Equations::tree_laws))]
+fn product_part(alloc: Global, times: i128, factors: Vec<Term>) -> Result<LinForm, NoMemory>
+    ensures { IfOk result (λ form. lin_of form ≡ lin (part (product_tree (map term_tree factors.items)) times ∷ []) (pos 0)) }
+{
+    let atom = Term::Op(TermOp::Mul, List::from_vec(factors));
+    let mut parts = Vec::new(alloc);
+    parts.push(LinPart { atom, times })?;
+    Ok(LinForm { parts, constant: 0 })
+}
+
+fn product_of_several(
+    alloc: Global,
+    by: i128,
+    forms: &[LinForm],
+) -> Result<Option<LinForm>, NoMemory>
+    ensures { IfOk result (λ form. option_map lin_of form ≡ product_part (fitted (times_product (other_factors (map lin_of forms.now)) *ℤ by)) (sorted_factors (other_factors (map lin_of forms.now)))) }
+{
+    match times_product(by, forms) {
+        Some(times) => {
+            let factors = sorted_factors(alloc, forms)?;
+            Ok(Some(product_part(alloc, times, factors)?))
+        }
+        None => Ok(None),
+    }
+}
+
+/// The product of forms: a number, a multiple of a form, or of an atom that is the product of several; none where it doesn't fit.
+#[tactic(auto, using(crate::proofs::Gathered::zero_of_many, crate::proofs::Gathered::part_of_many))]
 pub fn product_form(alloc: Global, forms: &[LinForm]) -> Result<Option<LinForm>, NoMemory>
     ensures { IfOk result (λ form. option_map lin_of form ≡ product_form (map lin_of forms.now)) }
 {
@@ -142,7 +195,7 @@ pub fn product_form(alloc: Global, forms: &[LinForm]) -> Result<Option<LinForm>,
                 if times == 0 {
                     return Ok(Some(number(alloc, 0)));
                 }
-                Ok(None)
+                product_of_several(alloc, times, forms)
             }
         },
     }

@@ -51,7 +51,7 @@ whole_alike (Cells m) (Whole z) a = absurd a
 whole_alike (Cells m) (Truth z) a = absurd a
 whole_alike (Cells m) (Blocks z) a = absurd a
 
-so_alike : (v w : Value) → Alike v w → is_so v ≡ is_so w
+pub so_alike : (v w : Value) → Alike v w → is_so v ≡ is_so w
 so_alike (Whole z) w a = ap is_so a
 so_alike (Truth b) w a = ap is_so a
 so_alike (Blocks t) w a = ap is_so a

@@ -12,7 +12,7 @@ use Rattle.qed_terms.specs.declared.head.Head.TheVariants as h
 use Rattle.qed_terms.specs.declared.head.TermOp.TheVariants as op
 use Rattle.qed_terms.specs.declared.head.FormOp.TheVariants as rel
 use Rattle.qed_terms.specs.declared.head.Sort.TheVariants as sort
-use Rattle.qed_terms.specs.Tree.{Tree, node, Trees, stop, more, head_of, false_tree}
+use Rattle.qed_terms.specs.Tree.{Tree, node, Trees, stop, more, head_of, one, false_tree}
 use Rattle.qed_terms.specs.Memory.{Memory, Entry, is_at, load, store}
 use Rattle.qed_terms.specs.Meaning.{World, Values, Value, Whole, Truth, Cells, Blocks, whole, memory, table, value, meaning, meanings}
 use Rattle.qed_terms.specs.Operators.{is_zero}
@@ -20,8 +20,8 @@ use Rattle.qed_terms.proofs.Total.{same_exact}
 use Rattle.qed_linear.specs.Linear.{Lin, is_number, checked, subtract, to_lin, is_integer}
 use Rattle.qed_linear.proofs.Facts.{zero_is, and_left, and_right}
 use Rattle.qed_linear.proofs.Values.{value_of, subtract_value, checked_value, number_value, to_lin_value, of_lin_value}
-use Rattle.qed_numbers.specs.Numbers.{Rule, first_of_rules}
-use Rattle.qed_numbers.proofs.Tests.{then_some_is, either, or_either}
+use Rattle.qed_numbers.specs.Numbers.{Rule}
+use Rattle.qed_numbers.proofs.Tests.{then_some_is, or_either, AllOf, first_one}
 use Rattle.qed_numbers.proofs.Keeps.{integer_whole}
 use Rattle.qed_memories.specs.Alike.{SameMap, Alike}
 use Rattle.qed_memories.specs.Laws.{MemoriesKeepMeaning}
@@ -39,6 +39,18 @@ alike_itself (Blocks t) = refl
 
 pub alike_where : (v w : Value) → v ≡ w → Alike v w
 alike_where v w e = subst (Alike v) e (alike_itself v)
+
+pub alike_then : (u v w : Value) → Alike u v → Alike v w → Alike u w
+alike_then (Cells l) (Cells m) (Cells n) a b = λ x y. a x y ∙ b x y
+alike_then (Cells l) (Cells m) (Whole z) a b = absurd b
+alike_then (Cells l) (Cells m) (Truth z) a b = absurd b
+alike_then (Cells l) (Cells m) (Blocks z) a b = absurd b
+alike_then (Cells l) (Whole z) w a b = absurd a
+alike_then (Cells l) (Truth z) w a b = absurd a
+alike_then (Cells l) (Blocks z) w a b = absurd a
+alike_then (Whole z) v w a b = subst (λ u. Alike u w) (sym a) b
+alike_then (Truth z) v w a b = subst (λ u. Alike u w) (sym a) b
+alike_then (Blocks z) v w a b = subst (λ u. Alike u w) (sym a) b
 
 -- ---- addresses of a memory
 
@@ -367,32 +379,19 @@ module _ (world : World) (env : Values) where
       ap M (sym p.1) ∙ no_answer_means head ts a ∙ ap (λ x. asked_value head x (meanings world env ts)) (sym (no_block_means t b p.0)) ∙ sym (asked_means head t b ts a)
 
   keeps_at_block : (rule : Head → (table block : Tree) → Trees → Option Tree) → KeepsAsked rule → Keeps (at_block rule)
-  keeps_at_block rule keeps head (more t (more b ts)) w k = go (asks head ts) refl k
-    where
-      go : (x : Bool) → asks head ts ≡ x → cond x (rule head t b ts) None ≡ Some w → Alike (M w) (M (asked head t b ts))
-      go true e q = alike_where (M w) (M (asked head t b ts)) (keeps head t b ts w e q)
-      go false e q = absurd cc
-  keeps_at_block rule keeps head (more t stop) w k = absurd cc
-  keeps_at_block rule keeps head stop w k = absurd cc
+  keeps_at_block rule keeps (h.Form (rel.Read k)) (more t (more b (more o stop))) w e = alike_where (M w) (M (asked (h.Form (rel.Read k)) t b (one o))) (keeps (h.Form (rel.Read k)) t b (one o) w refl e)
+  keeps_at_block rule keeps (h.Form (rel.Write k)) (more t (more b (more o stop))) w e = alike_where (M w) (M (asked (h.Form (rel.Write k)) t b (one o))) (keeps (h.Form (rel.Write k)) t b (one o) w refl e)
+  keeps_at_block rule keeps (h.Form rel.Live) (more t (more b stop)) w e = alike_where (M w) (M (asked (h.Form rel.Live) t b stop)) (keeps (h.Form rel.Live) t b stop w refl e)
+  keeps_at_block rule keeps (h.Term op.Len) (more t (more b stop)) w e = alike_where (M w) (M (asked (h.Term op.Len) t b stop)) (keeps (h.Term op.Len) t b stop w refl e)
+  keeps_at_block rule keeps head ts w e = absurd cc
 
   -- ---- all rules
 
-  abbrev AllKeep : List Rule → Type 0
-  AllKeep [] = Unit {0}
-  AllKeep (r ∷ rs) = Keeps r × AllKeep rs
-
-  first_keeps : (rs : List Rule) → AllKeep rs → (head : Head) (ts : Trees) (w : Tree) → first_of_rules rs head ts ≡ Some w → Alike (M w) (M (node head ts))
-  first_keeps [] a head ts w k = absurd cc
-  first_keeps (r ∷ rs) a head ts w k = elim (either (r head ts) (first_of_rules rs head ts) w k) [
-    | inl e ↦ a.0 head ts w e
-    | inr e ↦ first_keeps rs a.1 head ts w e
-  ]
-
-  all_keep : AllKeep memory_rules
+  all_keep : AllOf Keeps memory_rules
   all_keep = (keeps_load, (keeps_store, (keeps_count, (keeps_grow, (keeps_no_growth, (keeps_at_block over_grown keeps_grown, (keeps_at_block over_made keeps_made, (keeps_at_block over_none keeps_none, tt))))))))
 
   pub step_keeps : (head : Head) (ts : Trees) (w : Tree) → memory_step head ts ≡ Some w → Alike (M w) (M (node head ts))
-  step_keeps head ts w k = first_keeps memory_rules all_keep head ts w k
+  step_keeps head ts w k = let r = first_one Keeps memory_rules all_keep head ts w k in r.1.0 head ts w r.1.1
 
 pub memories_keep : MemoriesKeepMeaning
 memories_keep head ts w k world env = step_keeps world env head ts w k

@@ -159,7 +159,10 @@ abbrev pub asked : Head → (table block : Tree) → Trees → Tree
 asked head t b ts = node head (more t (more b ts))
 
 abbrev pub at_block : (Head → (table block : Tree) → Trees → Option Tree) → Rule
-at_block rule head (more t (more b ts)) = if asks head ts then rule head t b ts else None
+at_block rule (h.Form (rel.Read k)) (more t (more b (more o stop))) = rule (h.Form (rel.Read k)) t b (one o)
+at_block rule (h.Form (rel.Write k)) (more t (more b (more o stop))) = rule (h.Form (rel.Write k)) t b (one o)
+at_block rule (h.Form rel.Live) (more t (more b stop)) = rule (h.Form rel.Live) t b stop
+at_block rule (h.Term op.Len) (more t (more b stop)) = rule (h.Term op.Len) t b stop
 at_block rule head ts = None
 
 -- an ended block is no block

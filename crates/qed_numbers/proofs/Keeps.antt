@@ -18,7 +18,7 @@ use Rattle.qed_linear.proofs.Facts.{equal_is}
 use Rattle.qed_numbers.specs.Numbers as spec
 use Rattle.qed_numbers.specs.Numbers.{Rule, first_of_rules, number_at, is_that, is_num, zero_tree, integer_where, of_one, of_two, fitted, as_num, of_numbers, is_of_one_width, converted, is_converted, power_of_two, power_by, times_number, shifted, number_rules, number_step}
 use Rattle.qed_numbers.specs.Laws.{NumbersKeepMeaning, LongKeepsMeaning}
-use Rattle.qed_numbers.proofs.Tests.{then_some_is, either, both_so, or_either, as_num_is, fitted_back, of_one_back, of_two_back}
+use Rattle.qed_numbers.proofs.Tests.{then_some_is, either, AllOf, first_one, both_so, or_either, as_num_is, fitted_back, of_one_back, of_two_back}
 use Rattle.qed_numbers.proofs.Operators.{quotient_by_one, remainder_by_one, quotient_of_zero, remainder_of_zero, right_by_zero, left_is_product, both_with_zero, zero_with_both, either_with_zero, zero_with_either, one_with_zero, zero_with_one, same_width, converted_again}
 
 module _ (world : World) (env : Values) where
@@ -209,22 +209,11 @@ module _ (world : World) (env : Values) where
 
   -- ---- all rules
 
-  abbrev AllKeep : List Rule → Type 0
-  AllKeep [] = Unit {0}
-  AllKeep (r ∷ rs) = Keeps r × AllKeep rs
-
-  first_keeps : (rs : List Rule) → AllKeep rs → (o : TermOp) (ts : Trees) (w : Tree) → first_of_rules rs (h.Term o) ts ≡ Some w → M w ≡ M (node (h.Term o) ts)
-  first_keeps [] a o ts w k = absurd cc
-  first_keeps (r ∷ rs) a o ts w k = elim (either (r (h.Term o) ts) (first_of_rules rs (h.Term o) ts) w k) [
-    | inl e ↦ a.0 o ts w e
-    | inr e ↦ first_keeps rs a.1 o ts w e
-  ]
-
-  all_keep : AllKeep number_rules
+  all_keep : AllOf Keeps number_rules
   all_keep = (keeps_division, (keeps_divisor_one, (keeps_divisor_zero, (keeps_dividend_zero, (keeps_conversion, (keeps_second, (keeps_left, (keeps_right_zero, (keeps_right, (keeps_bits, (keeps_bits_zero, tt)))))))))))
 
   pub step_keeps : (o : TermOp) (ts : Trees) (w : Tree) → number_step (h.Term o) ts ≡ Some w → M w ≡ M (node (h.Term o) ts)
-  step_keeps o ts w k = first_keeps number_rules all_keep o ts w k
+  step_keeps o ts w k = let r = first_one Keeps number_rules all_keep (h.Term o) ts w k in r.1.0 o ts w r.1.1
 
 pub long_keeps : LongKeepsMeaning
 long_keeps n o ts w k world env e = keeps_long world env n e o ts w k

@@ -9,7 +9,7 @@ use Rattle.qed_linear.specs.Linear.{is_integer}
 use Rattle.qed_numbers.specs.Numbers as spec
 use Rattle.qed_numbers.specs.Numbers.{Rule, first_of_rules, number_at, is_num, zero_tree, integer_where, of_one, of_two, fitted, as_num, of_numbers, is_of_one_width, is_converted, power_by, times_number, shifted, number_rules}
 use Rattle.qed_numbers.specs.Laws.{Outcome, NumbersAnswer}
-use Rattle.qed_numbers.proofs.Tests.{then_some_is, either, as_num_is}
+use Rattle.qed_numbers.proofs.Tests.{then_some_is, either, AllOf, first_one, as_num_is}
 
 abbrev Answers : Rule → Type 0
 Answers r = (o : TermOp) (ts : Trees) (w : Tree) → r (h.Term o) ts ≡ Some w → Outcome o ts w
@@ -89,19 +89,8 @@ bits_zero op.BitOr (more t (more u stop)) w k = other op.BitOr t u w k
 bits_zero op.BitXor (more t (more u stop)) w k = other op.BitXor t u w k
 bits_zero o ts w k = absurd cc
 
-abbrev AllAnswer : List Rule → Type 0
-AllAnswer [] = Unit {0}
-AllAnswer (r ∷ rs) = Answers r × AllAnswer rs
-
-first_answers : (rs : List Rule) → AllAnswer rs → (o : TermOp) (ts : Trees) (w : Tree) → first_of_rules rs (h.Term o) ts ≡ Some w → Outcome o ts w
-first_answers [] a o ts w k = absurd cc
-first_answers (r ∷ rs) a o ts w k = elim (either (r (h.Term o) ts) (first_of_rules rs (h.Term o) ts) w k) [
-  | inl e ↦ a.0 o ts w e
-  | inr e ↦ first_answers rs a.1 o ts w e
-]
-
-all_answer : AllAnswer number_rules
+all_answer : AllOf Answers number_rules
 all_answer = (division, (divisor_one, (divisor_zero, (dividend_zero, (conversion, (second_conversion, (left_shift, (right_shift_zero, (right_shift, (bits, (bits_zero, tt)))))))))))
 
 pub numbers_answer : NumbersAnswer
-numbers_answer o ts w k = first_answers number_rules all_answer o ts w k
+numbers_answer o ts w k = let r = first_one Answers number_rules all_answer (h.Term o) ts w k in r.1.0 o ts w r.1.1

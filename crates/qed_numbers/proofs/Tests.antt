@@ -1,9 +1,10 @@
 -- What a test lets through, and what operators on numbers that may be none answer.
-use Rattle.std.proofs.Common.{◌≡◌, ◌⊎◌, inl, inr, Bool, true, false, ◌&&◌, ◌||◌, cond, ℤ, refl}
+use Rattle.std.proofs.Common.{◌≡◌, ◌⊎◌, inl, inr, Bool, true, false, ◌&&◌, ◌||◌, cond, ℤ, List, [], ◌∷◌, refl}
 use Rattle.std.specs.Prelude.{Option, Some, None}
-use Rattle.qed_terms.specs.Tree.{Tree, num}
+use Rattle.qed_terms.specs.declared.head.Head.{Head}
+use Rattle.qed_terms.specs.Tree.{Tree, Trees, num}
 use Rattle.qed_linear.specs.Linear.{fits}
-use Rattle.qed_numbers.specs.Numbers.{then_some, first_some, of_one, of_two, fitted, as_num}
+use Rattle.qed_numbers.specs.Numbers.{Rule, then_some, first_some, first_of_rules, of_one, of_two, fitted, as_num}
 
 pub then_some_is : (b : Bool) (t w : Tree) → then_some b t ≡ Some w → (b ≡ true) × (t ≡ w)
 then_some_is true t w k = (refl, cc)
@@ -12,6 +13,19 @@ then_some_is false t w k = absurd cc
 pub either : (o p : Option Tree) (w : Tree) → first_some o p ≡ Some w → (o ≡ Some w) ⊎ (p ≡ Some w)
 either (Some t) p w k = inl k
 either None p w k = inr k
+
+-- of each rule of a list
+abbrev pub AllOf : (Rule → Type 0) → List Rule → Type 0
+AllOf X [] = Unit {0}
+AllOf X (r ∷ rs) = X r × AllOf X rs
+
+-- what the first of them makes of a node one of them makes
+pub first_one : (X : Rule → Type 0) (rs : List Rule) → AllOf X rs → (head : Head) (ts : Trees) (w : Tree) → first_of_rules rs head ts ≡ Some w → (r : Rule) × (X r × (r head ts ≡ Some w))
+first_one X [] a head ts w k = absurd cc
+first_one X (r ∷ rs) a head ts w k = elim (either (r head ts) (first_of_rules rs head ts) w k) [
+  | inl e ↦ (r, (a.0, e))
+  | inr e ↦ first_one X rs a.1 head ts w e
+]
 
 pub both_so : (p q : Bool) → p && q ≡ true → (p ≡ true) × (q ≡ true)
 both_so true q k = (refl, k)

@@ -1,17 +1,18 @@
 -- The passes over relations.
 use Rattle.std.proofs.Common.{◌≡◌, ◌<◌, ◌≤◌, true, false, cond, List, [], ◌∷◌, map, length, get_or, refl, sym, ◌∙◌, ap, arith}
-use Rattle.std.specs.Prelude.{None}
+use Rattle.std.specs.Prelude.{Some, None}
 use Rattle.qed_terms.specs.declared.head.Head.TheVariants as h
 use Rattle.qed_terms.specs.declared.head.FormOp.{FormOp}
 use Rattle.qed_terms.specs.declared.head.FormOp.TheVariants as rel
 use Rattle.qed_terms.specs.declared.term.Term.{Term}
-use Rattle.qed_terms.specs.Tree.{node, two, trees_of}
+use Rattle.qed_terms.specs.Tree.{Tree, Trees, node, two, trees_of}
 use Rattle.qed_terms.specs.View.{term_tree}
 use Rattle.qed_terms.specs.Operators.{is_zero}
 use Rattle.qed_terms.specs.Order.{same}
 use Rattle.qed_linear.specs.Linear.{Lin, is_number, common_divisor, divides, divide_exact, make_lead_positive}
 use Rattle.qed_rules.specs.Rules.{truth_constant, equals_zero, equal_tree, is_twice, is_same_memory, negated_relation_at}
-use Rattle.qed_rules.specs.Passes.{compared}
+use Rattle.qed_memories.specs.Passes.{memory_pass}
+use Rattle.qed_rules.specs.Passes.{compared, normal_relation, done, again, or_again, pass_relation}
 
 pub equal_tree_is : (g : Lin) → is_number g ≡ false → divides (common_divisor (g.parts)) (g.constant) ≡ true → equal_tree g ≡ equals_zero (make_lead_positive (divide_exact g))
 equal_tree_is g a b =
@@ -62,3 +63,10 @@ not_pair [] k = refl
 not_pair (t ∷ []) k = refl
 not_pair (t ∷ u ∷ []) k = absurd (k (omega arith))
 not_pair (t ∷ u ∷ v ∷ ts) k = refl
+
+-- a relation by what is answered of a block, and where nothing is
+pub asked_again : (o : FormOp) (ts : Trees) (w : Tree) → Some w ≡ memory_pass (h.Form o) ts → again w ≡ pass_relation o ts
+asked_again o ts w k = ap (λ p. or_again p (normal_relation o ts)) k
+
+pub not_asked : (o : FormOp) (ts : Trees) (w : Tree) → None ≡ memory_pass (h.Form o) ts → w ≡ normal_relation o ts → done w ≡ pass_relation o ts
+not_asked o ts w k e = ap done e ∙ ap (λ p. or_again p (normal_relation o ts)) k

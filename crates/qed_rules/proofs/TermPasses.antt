@@ -1,5 +1,5 @@
 -- The normal forms of terms by their variants.
-use Rattle.std.proofs.Common.{◌≡◌, true, false, ◌&&◌, List, map, refl, sym, ◌∙◌, ap}
+use Rattle.std.proofs.Common.{◌≡◌, ℕ, true, false, ◌&&◌, List, map, refl, sym, ◌∙◌, ap}
 use Rattle.std.specs.Prelude.{Option, Some, None}
 use Rattle.qed_terms.specs.declared.head.Head.TheVariants as h
 use Rattle.qed_terms.specs.declared.head.TermOp.{TermOp}
@@ -9,18 +9,33 @@ use Rattle.qed_terms.specs.Tree.{Tree, Trees, node, trees_of, head_of}
 use Rattle.qed_terms.specs.Order.{same}
 use Rattle.qed_terms.specs.View.{term_tree}
 use Rattle.qed_terms.proofs.Equations.{term_tree-Op}
-use Rattle.qed_linear.specs.Linear.{is_integer, Lin, op_form, or_atom, of_lin, unwrap_or}
-use Rattle.qed_numbers.specs.Numbers.{number_step}
+use Rattle.qed_linear.specs.Linear.{is_integer, Lin, op_form, or_atom, of_lin}
+use Rattle.qed_numbers.specs.Numbers.{first_some, long_rule, number_step}
 use Rattle.qed_rules.specs.Rules.{then_some, chosen_arm, is_truth_constant}
-use Rattle.qed_rules.specs.Passes.{linear_term, normal_node}
+use Rattle.qed_memories.specs.Passes.{memory_pass}
+use Rattle.qed_rules.specs.Passes.{linear_term, by_rules, normal_op}
 use Rattle.qed_linear.proofs.TermForms.{forms_of, to_lins_of}
 
--- an operator over terms by what the first rule makes of it, and where none changes it
-pub ruled : (o : TermOp) (ts : Trees) (w : Tree) → Some w ≡ number_step (h.Term o) ts → linear_term w ≡ normal_node (h.Term o) ts
-ruled o ts w n = ap (λ p. linear_term (unwrap_or p (node (h.Term o) ts))) n
+-- what a rule on numbers makes, or the one on `long`
+pub by_number : (bits : ℕ) (o : TermOp) (ts : Trees) (w : Tree) → Some w ≡ number_step (h.Term o) ts → Some w ≡ first_some (number_step (h.Term o) ts) (long_rule bits (h.Term o) ts)
+by_number bits o ts w n = ap (λ p. first_some p (long_rule bits (h.Term o) ts)) n
 
-pub not_ruled : (o : TermOp) (ts : Trees) → None ≡ number_step (h.Term o) ts → linear_term (node (h.Term o) ts) ≡ normal_node (h.Term o) ts
-not_ruled o ts n = ap (λ p. linear_term (unwrap_or p (node (h.Term o) ts))) n
+pub by_long : (bits : ℕ) (o : TermOp) (ts : Trees) → None ≡ number_step (h.Term o) ts → long_rule bits (h.Term o) ts ≡ first_some (number_step (h.Term o) ts) (long_rule bits (h.Term o) ts)
+by_long bits o ts n = ap (λ p. first_some p (long_rule bits (h.Term o) ts)) n
+
+-- an operator over terms by that, and where no such rule changes it
+pub ruled : (bits : ℕ) (o : TermOp) (ts : Trees) (w : Tree) → Some w ≡ first_some (number_step (h.Term o) ts) (long_rule bits (h.Term o) ts) → linear_term w ≡ normal_op bits o ts
+ruled bits o ts w n = ap (λ p. by_rules p (memory_pass (h.Term o) ts) (node (h.Term o) ts)) n
+
+pub not_ruled : (bits : ℕ) (o : TermOp) (ts : Trees) → None ≡ first_some (number_step (h.Term o) ts) (long_rule bits (h.Term o) ts) → by_rules None (memory_pass (h.Term o) ts) (node (h.Term o) ts) ≡ normal_op bits o ts
+not_ruled bits o ts n = ap (λ p. by_rules p (memory_pass (h.Term o) ts) (node (h.Term o) ts)) n
+
+-- by what the rules on memories and tables make of it, and where none changes it
+pub remembered : (o : TermOp) (ts : Trees) (w : Tree) → Some w ≡ memory_pass (h.Term o) ts → w ≡ by_rules None (memory_pass (h.Term o) ts) (node (h.Term o) ts)
+remembered o ts w n = ap (λ p. by_rules None p (node (h.Term o) ts)) n
+
+pub not_remembered : (o : TermOp) (ts : Trees) → None ≡ memory_pass (h.Term o) ts → linear_term (node (h.Term o) ts) ≡ by_rules None (memory_pass (h.Term o) ts) (node (h.Term o) ts)
+not_remembered o ts n = ap (λ p. by_rules None p (node (h.Term o) ts)) n
 
 -- by its form, or where it has none
 op_form_is : (o : TermOp) (ts : List Term) (g : Option Lin) → g ≡ op_form o (forms_of ts) → linear_term (node (h.Term o) (trees_of (map term_tree ts))) ≡ of_lin (or_atom g (node (h.Term o) (trees_of (map term_tree ts))))

@@ -2,13 +2,15 @@
 use Rattle.std.specs.Prelude.{Bool, true, false, not, ◌&&◌, ◌||◌, if◌then◌else◌, pos, List, [], ◌∷◌, Option, Some, None, ℕ}
 use Rattle.qed_terms.specs.declared.head.Head.{Head}
 use Rattle.qed_terms.specs.declared.head.Head.TheVariants as h
+use Rattle.qed_terms.specs.declared.head.TermOp.{TermOp}
 use Rattle.qed_terms.specs.declared.head.TermOp.TheVariants as op
 use Rattle.qed_terms.specs.declared.head.FormOp.{FormOp}
 use Rattle.qed_terms.specs.declared.head.FormOp.TheVariants as rel
 use Rattle.qed_terms.specs.Tree.{Tree, node, Trees, stop, more, list_of, head_of, two, one, three, num, true_tree, at_most, equal, ite, not_of}
 use Rattle.qed_linear.specs.Linear.{Lin, of_lin, to_lin, checked, subtract, unwrap_or}
-use Rattle.qed_numbers.specs.Numbers.{number_at, number_step}
+use Rattle.qed_numbers.specs.Numbers.{first_some, number_at, long_rule, number_step}
 use Rattle.qed_substitution.specs.Substitution.{quantifier}
+use Rattle.qed_memories.specs.Passes.{memory_pass}
 use Rattle.qed_rules.specs.Rules.{is_formula, chosen_arm, truth_constant, at_most_tree, equal_tree, nots, negated_relation, is_empty_between, single_range_rule, is_same_memory, junction, is_truth_constant, has, is_opposed, flatten, drop_units, drop_repeats}
 
 -- the junction of these; one stands alone, none is the unit
@@ -72,6 +74,19 @@ normal_equal t u = by_form equal_tree (checked (subtract (to_lin t) (to_lin u)))
 abbrev pub linear_term : Tree → Tree
 linear_term t = of_lin (to_lin t)
 
+-- what an operator comes to by the rules on numbers, else by those on memories and tables, else by its form
+abbrev pub by_rules : (of_numbers of_memories : Option Tree) → Tree → Tree
+by_rules (Some w) o t = linear_term w
+by_rules None (Some w) t = w
+by_rules None None t = linear_term t
+
+-- where `long` has so many bits
+abbrev pub normal_op : (long_bits : ℕ) → TermOp → Trees → Tree
+normal_op bits o ts = by_rules (first_some (number_step (h.Term o) ts) (long_rule bits (h.Term o) ts)) (memory_pass (h.Term o) ts) (node (h.Term o) ts)
+
+abbrev pub normal_ite : Tree → Tree → Tree → Tree
+normal_ite f t u = unwrap_or (chosen_arm (head_of f) t u) (ite f t u)
+
 -- a comparison of integers
 abbrev pub compared : FormOp → Trees → Tree
 compared rel.Less (more t (more u stop)) = normal_at_most (linear_term (node (h.Term op.Add) (two t (num (pos 1))))) u
@@ -79,15 +94,18 @@ compared rel.AtMost (more t (more u stop)) = normal_at_most t u
 compared rel.Equal (more t (more u stop)) = normal_equal t u
 compared o ts = node (h.Form o) ts
 
+-- a relation that asks of no block
+abbrev pub normal_relation : FormOp → Trees → Tree
+normal_relation o ts = if is_same_memory o ts then true_tree else compared o ts
+
 -- the normal form of a node over kids in normal form, at the heads whose rules make nothing that has to be brought to normal form again
-abbrev pub normal_node : Head → Trees → Tree
-normal_node (h.Num z) ts = linear_term (node (h.Num z) ts)
-normal_node (h.Term o) ts = linear_term (unwrap_or (number_step (h.Term o) ts) (node (h.Term o) ts))
-normal_node h.Ite (more f (more t (more u stop))) = unwrap_or (chosen_arm (head_of f) t u) (ite f t u)
-normal_node (h.Form o) ts = if is_same_memory o ts then true_tree else compared o ts
-normal_node h.And ts = normal_junction true (list_of ts)
-normal_node h.Or ts = normal_junction false (list_of ts)
-normal_node head ts = node head ts
+abbrev pub normal_node : (long_bits : ℕ) → Head → Trees → Tree
+normal_node bits (h.Num z) ts = linear_term (node (h.Num z) ts)
+normal_node bits (h.Term o) ts = normal_op bits o ts
+normal_node bits h.Ite (more f (more t (more u stop))) = normal_ite f t u
+normal_node bits h.And ts = normal_junction true (list_of ts)
+normal_node bits h.Or ts = normal_junction false (list_of ts)
+normal_node bits head ts = node head ts
 
 -- ---- what may have to be brought to normal form again
 
@@ -99,6 +117,10 @@ pub data Pass : Type 0 where
 abbrev pub or_again : Option Tree → Tree → Pass
 or_again None t = done t
 or_again (Some w) t = again w
+
+-- what is asked of a block is asked of another table, or answered
+abbrev pub pass_relation : FormOp → Trees → Pass
+pass_relation o ts = or_again (memory_pass (h.Form o) ts) (normal_relation o ts)
 
 abbrev pub either : Tree → Tree → Tree
 either f g = node h.Or (two f g)
@@ -132,10 +154,11 @@ pass_quantifier b x t u f =
     else or_again (single_range_rule b x t u f) (node (quantifier b x) (three t u f))
 
 -- what a node comes to over kids in normal form
-abbrev pub pass : Head → Trees → Pass
-pass h.Not (more f stop) = pass_not f
-pass h.Imp (more a (more b stop)) = pass_implication a b
-pass h.Iff (more a (more b stop)) = pass_equivalence a b
-pass (h.Forall x) (more t (more u (more f stop))) = pass_quantifier true x t u f
-pass (h.Exists x) (more t (more u (more f stop))) = pass_quantifier false x t u f
-pass head ts = done (normal_node head ts)
+abbrev pub pass : (long_bits : ℕ) → Head → Trees → Pass
+pass bits (h.Form o) ts = pass_relation o ts
+pass bits h.Not (more f stop) = pass_not f
+pass bits h.Imp (more a (more b stop)) = pass_implication a b
+pass bits h.Iff (more a (more b stop)) = pass_equivalence a b
+pass bits (h.Forall x) (more t (more u (more f stop))) = pass_quantifier true x t u f
+pass bits (h.Exists x) (more t (more u (more f stop))) = pass_quantifier false x t u f
+pass bits head ts = done (normal_node bits head ts)

@@ -14,6 +14,6 @@ mod turns;
 pub use junctions::normal_junction;
 pub use pass::Pass;
 pub use quantifiers::pass_quantifier;
-pub use relations::normal_relation;
+pub use relations::pass_relation;
 pub use terms::{normal_ite, normal_op};
 pub use turns::{pass_equivalence, pass_implication, pass_not};

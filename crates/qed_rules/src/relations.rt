@@ -9,15 +9,18 @@ ghost use Rattle.qed_terms.specs.Order.{same};
 ghost use Rattle.qed_linear.specs.Linear.{of_lin, subtract, checked, to_lin, unwrap_or};
 ghost use Rattle.qed_linear.specs.View.{lin_of};
 ghost use Rattle.qed_rules.specs.Rules.{truth_constant, at_most_tree, equal_tree, is_same_memory, is_twice, negated_relation_at};
-ghost use Rattle.qed_rules.specs.Passes.{compared, linear_term, normal_at_most, normal_equal, normal_node};
+ghost use Rattle.qed_rules.specs.Passes.{compared, linear_term, normal_at_most, normal_equal, normal_relation, pass_relation};
+ghost use Rattle.qed_rules.specs.View.{view_pass};
 
 use crate::build::{copy_both, pair};
 use crate::constants::truth_constant;
-use crate::terms::normal_op;
+use crate::pass::Pass;
+use crate::terms::by_form;
 use qed_linear::{
     LinForm, common_divisor, divide_exact, divides, form_of, into_term, make_lead_positive, number,
     subtract, tighten,
 };
+use qed_memories::block_pass;
 use qed_terms::{FormOp, Formula, Term, TermOp};
 use std::alloc::Global;
 use wp_base::{List, NoMemory};
@@ -95,7 +98,7 @@ fn one_more(alloc: Global, term: &Term) -> Result<Term, NoMemory>
     ensures { IfOk result (λ sum. term_tree sum ≡ linear_term (node (h.Term op.Add) (two (term_tree term.now) (num (pos 1))))) }
 {
     let terms = pair(alloc, term.copy(alloc)?, Term::number(1))?;
-    normal_op(alloc, TermOp::Add, terms)
+    by_form(alloc, TermOp::Add, terms)
 }
 
 fn normal_less(alloc: Global, left: &Term, right: &Term) -> Result<Formula, NoMemory>
@@ -157,10 +160,10 @@ fn is_same_memory(op: &FormOp, terms: &[Term]) -> bool
     }
 }
 
-/// The normal form of a relation of terms that are in normal form.
+// The normal form of a relation that asks of no block.
 #[tactic(auto, using(qed_terms::proofs::Equations::tree_laws))]
-pub fn normal_relation(alloc: Global, op: FormOp, terms: List<Term>) -> Result<Formula, NoMemory>
-    ensures { IfOk result (λ formula. formula_tree formula ≡ normal_node (h.Form op) (trees_of (map term_tree terms))) }
+fn normal_relation(alloc: Global, op: FormOp, terms: List<Term>) -> Result<Formula, NoMemory>
+    ensures { IfOk result (λ formula. formula_tree formula ≡ normal_relation op (trees_of (map term_tree terms))) }
 {
     if is_same_memory(&op, terms.as_slice()) {
         return Ok(Formula::True);
@@ -180,6 +183,17 @@ fn compare(alloc: Global, op: FormOp, terms: List<Term>) -> Result<Formula, NoMe
     match normal_comparison(alloc, &op, &pair[0], &pair[1])? {
         Some(formula) => Ok(formula),
         None => Ok(Formula::Rel(op, terms)),
+    }
+}
+
+/// What becomes of a relation of terms that are in normal form.
+#[tactic(auto, using(crate::proofs::RelationPasses::asked_again, crate::proofs::RelationPasses::not_asked))]
+pub fn pass_relation(alloc: Global, op: FormOp, terms: List<Term>) -> Result<Pass, NoMemory>
+    ensures { IfOk result (λ p. view_pass p ≡ pass_relation op (trees_of (map term_tree terms))) }
+{
+    match block_pass(alloc, &op, terms.as_slice())? {
+        Some(formula) => Ok(Pass::Again(formula)),
+        None => Ok(Pass::Done(normal_relation(alloc, op, terms)?)),
     }
 }
 

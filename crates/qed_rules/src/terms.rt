@@ -1,15 +1,18 @@
 // Terms over kids that are in normal form.
-ghost use Rattle.std.specs.Prelude.{◌≡◌, map, option_map, IfOk};
+ghost use Rattle.std.specs.Prelude.{◌≡◌, map, option_map, IfOk, None};
 ghost use Rattle.qed_terms.specs.Tree.{head_of, node, three, trees_of};
 ghost use Rattle.qed_terms.specs.View.{formula_tree, term_tree};
 ghost use Rattle.qed_terms.specs.declared.head.Head.TheVariants as h;
 ghost use Rattle.qed_linear.specs.Linear.{is_integer};
 ghost use Rattle.qed_rules.specs.Rules.{then_some, chosen_arm};
-ghost use Rattle.qed_rules.specs.Passes.{linear_term, normal_node};
+ghost use Rattle.qed_numbers.specs.Numbers.{first_some, long_rule, number_step};
+ghost use Rattle.qed_memories.specs.Passes.{memory_pass};
+ghost use Rattle.qed_rules.specs.Passes.{by_rules, linear_term, normal_ite, normal_op};
 
 use crate::constants::is_truth_constant;
 use qed_linear::{form_of, into_term, is_integer, op_form};
-use qed_numbers::number_step;
+use qed_memories::memory_pass;
+use qed_numbers::{long_step, number_step};
 use qed_terms::{Formula, Term, TermOp};
 use std::alloc::Global;
 use wp_base::{List, NoMemory};
@@ -21,9 +24,9 @@ fn linear_term(alloc: Global, term: &Term) -> Result<Term, NoMemory>
     into_term(alloc, form_of(alloc, term)?)
 }
 
-// An operator over terms that no rule on numbers changes.
+/// An operator over terms that no rule changes.
 #[tactic(auto, using(qed_terms::proofs::Equations::tree_laws))]
-fn by_form(alloc: Global, op: TermOp, kids: List<Term>) -> Result<Term, NoMemory>
+pub fn by_form(alloc: Global, op: TermOp, kids: List<Term>) -> Result<Term, NoMemory>
     ensures { IfOk result (λ linear. term_tree linear ≡ linear_term (node (h.Term op) (trees_of (map term_tree kids)))) }
 {
     match op_form(alloc, &op, &kids)? {
@@ -32,14 +35,41 @@ fn by_form(alloc: Global, op: TermOp, kids: List<Term>) -> Result<Term, NoMemory
     }
 }
 
-/// The normal form of an operator over terms that are in normal form.
-#[tactic(auto, using(crate::proofs::TermPasses::ruled, crate::proofs::TermPasses::not_ruled))]
-pub fn normal_op(alloc: Global, op: TermOp, kids: List<Term>) -> Result<Term, NoMemory>
-    ensures { IfOk result (λ normal. term_tree normal ≡ normal_node (h.Term op) (trees_of (map term_tree kids))) }
+// An operator over terms that no rule on numbers changes.
+#[tactic(auto, using(crate::proofs::TermPasses::remembered, crate::proofs::TermPasses::not_remembered))]
+fn without_numbers(alloc: Global, op: TermOp, kids: List<Term>) -> Result<Term, NoMemory>
+    ensures { IfOk result (λ normal. term_tree normal ≡ by_rules None (memory_pass (h.Term op) (trees_of (map term_tree kids))) (node (h.Term op) (trees_of (map term_tree kids)))) }
 {
-    match number_step(alloc, &op, kids.as_slice())? {
-        Some(term) => linear_term(alloc, &term),
+    match memory_pass(alloc, &op, kids.as_slice())? {
+        Some(term) => Ok(term),
         None => by_form(alloc, op, kids),
+    }
+}
+
+// What a rule on numbers makes of an operator, where `long` has so many bits.
+#[tactic(auto, using(crate::proofs::TermPasses::by_number, crate::proofs::TermPasses::by_long))]
+fn ruled(alloc: Global, long_bits: u8, op: &TermOp, kids: &[Term]) -> Result<Option<Term>, NoMemory>
+    ensures { IfOk result (λ made. option_map term_tree made ≡ first_some (number_step (h.Term op.now) (trees_of (map term_tree kids.now))) (long_rule long_bits (h.Term op.now) (trees_of (map term_tree kids.now)))) }
+{
+    match number_step(alloc, op, kids)? {
+        Some(term) => Ok(Some(term)),
+        None => Ok(long_step(long_bits, op, kids)),
+    }
+}
+
+/// The normal form of an operator over terms that are in normal form, where `long` has so many bits.
+#[tactic(auto, using(crate::proofs::TermPasses::ruled, crate::proofs::TermPasses::not_ruled))]
+pub fn normal_op(
+    alloc: Global,
+    long_bits: u8,
+    op: TermOp,
+    kids: List<Term>,
+) -> Result<Term, NoMemory>
+    ensures { IfOk result (λ normal. term_tree normal ≡ normal_op long_bits op (trees_of (map term_tree kids))) }
+{
+    match ruled(alloc, long_bits, &op, kids.as_slice())? {
+        Some(term) => linear_term(alloc, &term),
+        None => without_numbers(alloc, op, kids),
     }
 }
 
@@ -82,7 +112,7 @@ pub fn normal_ite(
     left: Term,
     right: Term,
 ) -> Result<Term, NoMemory>
-    ensures { IfOk result (λ normal. term_tree normal ≡ normal_node h.Ite (three (formula_tree condition) (term_tree left) (term_tree right))) }
+    ensures { IfOk result (λ normal. term_tree normal ≡ normal_ite (formula_tree condition) (term_tree left) (term_tree right)) }
 {
     match chosen_arm(alloc, &condition, &left, &right)? {
         Some(term) => Ok(term),

@@ -3,7 +3,10 @@ use Rattle.std.proofs.Common.{◌≡◌, ◌⊎◌, ℕ, suc, ◌+◌, refl, sym
 use Rattle.std.specs.Prelude.{Option, Some, None}
 use Rattle.qed_terms.specs.declared.head.Head.{Head}
 use Rattle.qed_terms.specs.Tree.{Tree, node, Trees, stop, more, head_of, kids_in}
-use Rattle.qed_terms.specs.Meaning.{World, Values, meaning, meanings, head_meaning}
+use Rattle.qed_terms.specs.Meaning.{World, Values, meaning, meanings}
+use Rattle.qed_memories.specs.Alike.{Alike, AllAlike, RespectsAlike}
+use Rattle.qed_memories.proofs.Congruence.{heads_keep_alike}
+use Rattle.qed_memories.proofs.Keeps.{alike_then}
 use Rattle.qed_simplify.specs.Normal.{Normal, Normals, stays, changes, nothing, each}
 
 module _ (step : Tree → Option Tree) where
@@ -115,15 +118,17 @@ module _ (step : Tree → Option Tree) where
     fixed-normals (more t ts) f = each (fixed-normal t f.0) (fixed-normals ts f.1)
 
   -- where each step keeps the meaning under all values, so does the normal form
-  module _ (world : World) (keeps : (head : Head) (ts : Trees) (w : Tree) → AllFixed ts → step (node head ts) ≡ Some w → (env : Values) → meaning world env w ≡ meaning world env (node head ts)) where
-    over_alike : (head : Head) (ts us : Trees) → ((env : Values) → meanings world env us ≡ meanings world env ts) → (env : Values) → meaning world env (node head us) ≡ meaning world env (node head ts)
-    over_alike head ts us alike env = λ i. head_meaning world head (λ env'. alike env' i) env
+  module _ (world : World) (respects : RespectsAlike world) (keeps : (head : Head) (ts : Trees) (w : Tree) → AllFixed ts → step (node head ts) ≡ Some w → (env : Values) → Alike (meaning world env w) (meaning world env (node head ts))) where
+    over_alike : (head : Head) (ts us : Trees) → ((env : Values) → AllAlike (meanings world env us) (meanings world env ts)) → (env : Values) → Alike (meaning world env (node head us)) (meaning world env (node head ts))
+    over_alike head ts us alike env = heads_keep_alike world respects head (λ env'. meanings world env' us) (λ env'. meanings world env' ts) alike env
 
     mutual
-      pub normal_keeps : {t u : Tree} → Normal step t u → (env : Values) → meaning world env u ≡ meaning world env t
+      pub normal_keeps : {t u : Tree} → Normal step t u → (env : Values) → Alike (meaning world env u) (meaning world env t)
       normal_keeps (stays {head} {ts} {us} ks e) env = over_alike head ts us (λ env'. normals_keep ks env') env
-      normal_keeps (changes {head} {ts} {us} {w} ks e d) env = normal_keeps d env ∙ keeps head us w (normals-fixed ks) e env ∙ over_alike head ts us (λ env'. normals_keep ks env') env
+      normal_keeps {u = u} (changes {head} {ts} {us} {w} ks e d) env =
+          alike_then (meaning world env u) (meaning world env w) (meaning world env (node head ts)) (normal_keeps d env)
+          (alike_then (meaning world env w) (meaning world env (node head us)) (meaning world env (node head ts)) (keeps head us w (normals-fixed ks) e env) (over_alike head ts us (λ env'. normals_keep ks env') env))
 
-      normals_keep : {ts us : Trees} → Normals step ts us → (env : Values) → meanings world env us ≡ meanings world env ts
-      normals_keep nothing env = refl
-      normals_keep (each d ds) env = let a = normal_keeps d env in let b = normals_keep ds env in cc
+      normals_keep : {ts us : Trees} → Normals step ts us → (env : Values) → AllAlike (meanings world env us) (meanings world env ts)
+      normals_keep nothing env = tt
+      normals_keep (each d ds) env = (normal_keeps d env, normals_keep ds env)

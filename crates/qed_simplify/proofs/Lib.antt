@@ -6,6 +6,8 @@ pub mod Junctions
 pub mod Keeps
 pub mod Laws
 pub mod Lighter
+pub mod Memories
+pub mod MemoryWeights
 pub mod Names
 pub mod Passed
 pub mod Quantified
@@ -14,6 +16,7 @@ pub mod Relations
 pub mod Settled
 pub mod Sorts
 pub mod Steps
+pub mod Tables
 pub mod Tests
 pub mod Truths
 pub mod Weights

@@ -12,195 +12,217 @@ use Rattle.qed_terms.specs.Order.{same}
 use Rattle.qed_linear.specs.Linear.{is_integer, unwrap_or}
 use Rattle.qed_linear.proofs.Facts.{and_left, and_right}
 use Rattle.qed_numbers.specs.Numbers.{number_at}
-use Rattle.qed_rules.specs.Rules.{is_formula, chosen_arm, truth_constant, then_some, nots, inward, negated_relation, negated_relation_at, junction, is_truth_constant, is_empty_between, empty_rule, single_range_rule, is_same_memory, first_some, step}
+use Rattle.qed_rules.specs.Rules.{is_formula, chosen_arm, truth_constant, then_some, nots, inward, negated_relation, negated_relation_at, junction, is_truth_constant, is_empty_between, empty_rule, single_range_rule, is_same_memory, first_some, first_of_rules, step}
 use Rattle.qed_simplify.specs.Normal.{Normal, Normals, stays, changes, nothing, each}
-use Rattle.qed_rules.specs.Passes.{normal_junction, is_unquantified, are_unquantified, normal_not, normal_nots, compared, linear_term, Pass, done, again, or_again, either, both_ways, turned, pass_not, pass_implication, pass_equivalence, pass_quantifier, pass}
+use Rattle.qed_memories.specs.Memories.{asks, memory_step}
+use Rattle.qed_memories.specs.Passes.{memory_pass}
+use Rattle.qed_rules.specs.Passes.{normal_relation, pass_relation, normal_junction, is_unquantified, are_unquantified, normal_not, normal_nots, compared, linear_term, Pass, done, again, or_again, either, both_ways, turned, pass_not, pass_implication, pass_equivalence, pass_quantifier, pass}
 use Rattle.qed_substitution.specs.Substitution.{quantifier}
 use Rattle.qed_numbers.proofs.Tests.{then_some_is}
 use Rattle.qed_simplify.proofs.Derived.{Fixed, AllFixed, fixed-normal, fixed-normals, normal-fixed, normals-fixed, over_kids}
-use Rattle.qed_simplify.proofs.Settled.{num_normal, op_normal, number_normal}
+use Rattle.qed_simplify.proofs.Settled.{num_normal, number_normal}
+use Rattle.qed_simplify.proofs.Memories.{op_normal, Comes, at_once, asked_none, asked_comes}
+use Rattle.qed_simplify.proofs.Tables.{formula_rules, form_step}
 use Rattle.qed_simplify.proofs.Relations.{truth_normal, at_most_normal, equal_normal, negated_relation_normal}
 use Rattle.qed_simplify.proofs.Junctions.{EachFixed, each_fixed, junction_normal}
 
--- `and` or `or` of these, as they stand in a node
-pub junction_normal_at : (b : Bool) (ts : List Tree) → AllFixed step (trees_of ts) → Normal step (junction b ts) (normal_junction b ts)
-junction_normal_at b ts f = junction_normal b ts (back ts f)
-  where
-    back : (us : List Tree) → AllFixed step (trees_of us) → EachFixed us
-    back [] f = tt
-    back (t ∷ us) f = (f.0, back us f.1)
-
-pub not_stays : (head : Head) (ts : Trees) → Fixed step (node head ts) → step (not_of (node head ts)) ≡ None → Normal step (not_of (node head ts)) (not_of (node head ts))
-not_stays head ts f e = stays (each (fixed-normal step (node head ts) f) nothing) e
-
-pub not_form : (o : FormOp) (ts : Trees) → Fixed step (node (h.Form o) ts) → Normal step (not_of (node (h.Form o) ts)) (unwrap_or (negated_relation (node (h.Form o) ts)) (not_of (node (h.Form o) ts)))
-not_form o ts f = go (negated_relation_at (h.Form o) ts) refl
-  where
-    go : (p : Option Tree) → negated_relation_at (h.Form o) ts ≡ p → Normal step (not_of (node (h.Form o) ts)) (unwrap_or p (not_of (node (h.Form o) ts)))
-    go None e = not_stays (h.Form o) ts f (ap (λ p. first_some p None) e)
-    go (Some w) e = changes (each (fixed-normal step (node (h.Form o) ts) f) nothing) (ap (λ p. first_some p None) e) (negated_relation_normal (node (h.Form o) ts) w f e)
-
--- a node over three kids that no rule changes
-over_three : (head : Head) (t u a : Tree) → Fixed step t → Fixed step u → Fixed step a → step (node head (three t u a)) ≡ None → Normal step (node head (three t u a)) (node head (three t u a))
-over_three head t u a f k l e = stays (fixed-normals step (three t u a) (f, (k, (l, tt)))) e
-
-mutual
-  pub not_normal : (t : Tree) → Fixed step t → is_unquantified t ≡ true → Normal step (not_of t) (normal_not t)
-  not_normal (node h.True ts) f k = changes (each (fixed-normal step (node h.True ts) f) nothing) refl (truth_normal false)
-  not_normal (node h.False ts) f k = changes (each (fixed-normal step (node h.False ts) f) nothing) refl (truth_normal true)
-  not_normal (node h.Not (more u stop)) f k = go (is_formula (head_of u)) refl
+module _ (bits : ℕ) where
+  -- `and` or `or` of these, as they stand in a node
+  pub junction_normal_at : (b : Bool) (ts : List Tree) → AllFixed (step bits) (trees_of ts) → Normal (step bits) (junction b ts) (normal_junction b ts)
+  junction_normal_at b ts f = (junction_normal bits) b ts (back ts f)
     where
-      go : (b : Bool) → is_formula (head_of u) ≡ b → Normal step (not_of (not_of u)) (cond b u (node h.Not (one (node h.Not (one u)))))
-      go true e = changes (each (fixed-normal step (not_of u) f) nothing) (ap (λ b. first_some (then_some b u) None) e) (fixed-normal step u f.0.0)
-      go false e = not_stays h.Not (one u) f (ap (λ b. first_some (then_some b u) None) e)
-  not_normal (node h.And ts) f k =
-      let ks = nots_normal ts f.0 k in
-      changes (each (fixed-normal step (node h.And ts) f) nothing) refl (over_kids step ks (junction_normal_at false (normal_nots ts) (normals-fixed step ks)))
-  not_normal (node h.Or ts) f k =
-      let ks = nots_normal ts f.0 k in
-      changes (each (fixed-normal step (node h.Or ts) f) nothing) refl (over_kids step ks (junction_normal_at true (normal_nots ts) (normals-fixed step ks)))
-  not_normal (node (h.Forall x) ts) f k = absurd cc
-  not_normal (node (h.Exists x) ts) f k = absurd cc
-  not_normal (node (h.Form o) ts) f k = not_form o ts f
-  not_normal (node head ts) f k = not_stays head ts f refl
+      back : (us : List Tree) → AllFixed (step bits) (trees_of us) → (EachFixed bits) us
+      back [] f = tt
+      back (t ∷ us) f = (f.0, back us f.1)
 
-  nots_normal : (ts : Trees) → AllFixed step ts → are_unquantified ts ≡ true → Normals step (nots ts) (trees_of (normal_nots ts))
-  nots_normal stop f k = nothing
-  nots_normal (more t ts) f k = each (not_normal t f.0 (and_left (is_unquantified t) (are_unquantified ts) k)) (nots_normal ts f.1 (and_right (is_unquantified t) (are_unquantified ts) k))
+  pub not_stays : (head : Head) (ts : Trees) → Fixed (step bits) (node head ts) → (step bits) (not_of (node head ts)) ≡ None → Normal (step bits) (not_of (node head ts)) (not_of (node head ts))
+  not_stays head ts f e = stays (each (fixed-normal (step bits) (node head ts) f) nothing) e
 
--- `or` of the negation of one and another, `and` of two
-either_normal : (a b : Tree) → Fixed step a → Fixed step b → is_unquantified a ≡ true → Normal step (node h.Or (two (not_of a) b)) (normal_junction false (normal_not a ∷ b ∷ []))
-either_normal a b f k q =
-    let n = not_normal a f q in
-    over_kids step (each n (each (fixed-normal step b k) nothing)) (junction_normal_at false (normal_not a ∷ b ∷ []) (normal-fixed step n, (k, tt)))
+  pub not_form : (o : FormOp) (ts : Trees) → Fixed (step bits) (node (h.Form o) ts) → Normal (step bits) (not_of (node (h.Form o) ts)) (unwrap_or (negated_relation (node (h.Form o) ts)) (not_of (node (h.Form o) ts)))
+  not_form o ts f = go (negated_relation_at (h.Form o) ts) refl
+    where
+      go : (p : Option Tree) → negated_relation_at (h.Form o) ts ≡ p → Normal (step bits) (not_of (node (h.Form o) ts)) (unwrap_or p (not_of (node (h.Form o) ts)))
+      go None e = not_stays (h.Form o) ts f (ap (λ p. first_some p None) e)
+      go (Some w) e = changes (each (fixed-normal (step bits) (node (h.Form o) ts) f) nothing) (ap (λ p. first_some p None) e) ((negated_relation_normal bits) (node (h.Form o) ts) w f e)
 
-or_normal : (a b : Tree) → Fixed step a → Fixed step b → is_unquantified b ≡ true → Normal step (node h.Or (two a (not_of b))) (normal_junction false (a ∷ normal_not b ∷ []))
-or_normal a b f k q =
-    let n = not_normal b k q in
-    over_kids step (each (fixed-normal step a f) (each n nothing)) (junction_normal_at false (a ∷ normal_not b ∷ []) (f, (normal-fixed step n, tt)))
+  -- a node over three kids that no rule changes
+  over_three : (head : Head) (t u a : Tree) → Fixed (step bits) t → Fixed (step bits) u → Fixed (step bits) a → (step bits) (node head (three t u a)) ≡ None → Normal (step bits) (node head (three t u a)) (node head (three t u a))
+  over_three head t u a f k l e = stays (fixed-normals (step bits) (three t u a) (f, (k, (l, tt)))) e
 
-arm_fixed : (g : Head) (t u w : Tree) → chosen_arm g t u ≡ Some w → Fixed step t → Fixed step u → Fixed step w
-arm_fixed h.True t u w k f l = subst (Fixed step) (then_some_is (is_integer (head_of t)) t w k).1 f
-arm_fixed h.False t u w k f l = subst (Fixed step) (then_some_is (is_integer (head_of u)) u w k).1 l
-arm_fixed g t u w k f l = subst (Fixed step) (then_some_is (same t u && is_integer (head_of t)) t w k).1 f
+  mutual
+    pub not_normal : (t : Tree) → Fixed (step bits) t → is_unquantified t ≡ true → Normal (step bits) (not_of t) (normal_not t)
+    not_normal (node h.True ts) f k = changes (each (fixed-normal (step bits) (node h.True ts) f) nothing) refl ((truth_normal bits) false)
+    not_normal (node h.False ts) f k = changes (each (fixed-normal (step bits) (node h.False ts) f) nothing) refl ((truth_normal bits) true)
+    not_normal (node h.Not (more u stop)) f k = go (is_formula (head_of u)) refl
+      where
+        go : (b : Bool) → is_formula (head_of u) ≡ b → Normal (step bits) (not_of (not_of u)) (cond b u (node h.Not (one (node h.Not (one u)))))
+        go true e = changes (each (fixed-normal (step bits) (not_of u) f) nothing) (ap (λ b. first_some (then_some b u) None) e) (fixed-normal (step bits) u f.0.0)
+        go false e = not_stays h.Not (one u) f (ap (λ b. first_some (then_some b u) None) e)
+    not_normal (node h.And ts) f k =
+        let ks = nots_normal ts f.0 k in
+        changes (each (fixed-normal (step bits) (node h.And ts) f) nothing) refl (over_kids (step bits) ks (junction_normal_at false (normal_nots ts) (normals-fixed (step bits) ks)))
+    not_normal (node h.Or ts) f k =
+        let ks = nots_normal ts f.0 k in
+        changes (each (fixed-normal (step bits) (node h.Or ts) f) nothing) refl (over_kids (step bits) ks (junction_normal_at true (normal_nots ts) (normals-fixed (step bits) ks)))
+    not_normal (node (h.Forall x) ts) f k = absurd cc
+    not_normal (node (h.Exists x) ts) f k = absurd cc
+    not_normal (node (h.Form o) ts) f k = not_form o ts f
+    not_normal (node head ts) f k = not_stays head ts f refl
 
-ite_normal : (c t u : Tree) → AllFixed step (three c t u) → Normal step (ite c t u) (unwrap_or (chosen_arm (head_of c) t u) (ite c t u))
-ite_normal c t u f = go (chosen_arm (head_of c) t u) refl
-  where
-    go : (o : Option Tree) → chosen_arm (head_of c) t u ≡ o → Normal step (ite c t u) (unwrap_or o (ite c t u))
-    go None e = stays (fixed-normals step (three c t u) f) (ap (λ o. first_some o None) e)
-    go (Some w) e = changes (fixed-normals step (three c t u) f) (ap (λ o. first_some o None) e) (fixed-normal step w (arm_fixed (head_of c) t u w e f.1.0 f.1.1.0))
+    nots_normal : (ts : Trees) → AllFixed (step bits) ts → are_unquantified ts ≡ true → Normals (step bits) (nots ts) (trees_of (normal_nots ts))
+    nots_normal stop f k = nothing
+    nots_normal (more t ts) f k = each (not_normal t f.0 (and_left (is_unquantified t) (are_unquantified ts) k)) (nots_normal ts f.1 (and_right (is_unquantified t) (are_unquantified ts) k))
 
--- a relation, where it isn't one of a memory and itself
-compared_normal : (o : FormOp) (us : Trees) → AllFixed step us → is_same_memory o us ≡ false → Normal step (node (h.Form o) us) (compared o us)
-compared_normal rel.Less (more t (more u stop)) f k =
-    let one_more = two t (num (pos 1)) in
-    let known : AllFixed step one_more = (f.0, (normal-fixed step (num_normal (pos 1)), tt)) in
-    let s = op_normal op.Add one_more known in
-    let l = fixed-normal step u f.1.0 in
-    changes (fixed-normals step (two t u) f) refl (over_kids step (each s (each l nothing)) (at_most_normal (linear_term (node (h.Term op.Add) one_more)) u (normal-fixed step s) f.1.0))
-compared_normal rel.AtMost (more t (more u stop)) f k = at_most_normal t u f.0 f.1.0
-compared_normal rel.Equal (more t (more u stop)) f k = equal_normal t u f.0 f.1.0
-compared_normal o us f k = stays (fixed-normals step us f) (ap (λ b. first_some (then_some b true_tree) None) k)
+  -- `or` of the negation of one and another, `and` of two
+  either_normal : (a b : Tree) → Fixed (step bits) a → Fixed (step bits) b → is_unquantified a ≡ true → Normal (step bits) (node h.Or (two (not_of a) b)) (normal_junction false (normal_not a ∷ b ∷ []))
+  either_normal a b f k q =
+      let n = not_normal a f q in
+      over_kids (step bits) (each n (each (fixed-normal (step bits) b k) nothing)) (junction_normal_at false (normal_not a ∷ b ∷ []) (normal-fixed (step bits) n, (k, tt)))
 
-by_memory : (o : FormOp) (us : Trees) → is_same_memory o us ≡ true → step (node (h.Form o) us) ≡ Some true_tree
-by_memory rel.Same us k = ap (λ b. first_some (then_some b true_tree) None) k
-by_memory (rel.Frame shapes) us k = ap (λ b. first_some (then_some b true_tree) None) k
-by_memory o us k = absurd cc
+  or_normal : (a b : Tree) → Fixed (step bits) a → Fixed (step bits) b → is_unquantified b ≡ true → Normal (step bits) (node h.Or (two a (not_of b))) (normal_junction false (a ∷ normal_not b ∷ []))
+  or_normal a b f k q =
+      let n = not_normal b k q in
+      over_kids (step bits) (each (fixed-normal (step bits) a f) (each n nothing)) (junction_normal_at false (a ∷ normal_not b ∷ []) (f, (normal-fixed (step bits) n, tt)))
 
-relation_normal : (o : FormOp) (us : Trees) → AllFixed step us → Normal step (node (h.Form o) us) (cond (is_same_memory o us) true_tree (compared o us))
-relation_normal o us f = go (is_same_memory o us) refl
-  where
-    go : (b : Bool) → is_same_memory o us ≡ b → Normal step (node (h.Form o) us) (cond b true_tree (compared o us))
-    go true k = changes (fixed-normals step us f) (by_memory o us k) (truth_normal true)
-    go false k = compared_normal o us f k
+  arm_fixed : (g : Head) (t u w : Tree) → chosen_arm g t u ≡ Some w → Fixed (step bits) t → Fixed (step bits) u → Fixed (step bits) w
+  arm_fixed h.True t u w k f l = subst (Fixed (step bits)) (then_some_is (is_integer (head_of t)) t w k).1 f
+  arm_fixed h.False t u w k f l = subst (Fixed (step bits)) (then_some_is (is_integer (head_of u)) u w k).1 l
+  arm_fixed g t u w k f l = subst (Fixed (step bits)) (then_some_is (same t u && is_integer (head_of t)) t w k).1 f
 
--- ---- what a pass makes
+  ite_normal : (c t u : Tree) → AllFixed (step bits) (three c t u) → Normal (step bits) (ite c t u) (unwrap_or (chosen_arm (head_of c) t u) (ite c t u))
+  ite_normal c t u f = go (chosen_arm (head_of c) t u) refl
+    where
+      go : (o : Option Tree) → chosen_arm (head_of c) t u ≡ o → Normal (step bits) (ite c t u) (unwrap_or o (ite c t u))
+      go None e = stays (fixed-normals (step bits) (three c t u) f) (ap (λ o. first_some o None) e)
+      go (Some w) e = changes (fixed-normals (step bits) (three c t u) f) (ap (λ o. first_some o None) e) (fixed-normal (step bits) w (arm_fixed (head_of c) t u w e f.1.0 f.1.1.0))
 
--- the normal form of the node, or what the rule that comes first makes of it
-abbrev pub Passes : Head → Trees → Pass → Type 0
-Passes head us (done v) = Normal step (node head us) v
-Passes head us (again w) = step (node head us) ≡ Some w
+  -- a relation that asks of no block, where it isn't one of a memory and itself
+  compared_normal : (o : FormOp) (us : Trees) → AllFixed (step bits) us → memory_step (h.Form o) us ≡ None → is_same_memory o us ≡ false → Normal (step bits) (node (h.Form o) us) (compared o us)
+  compared_normal rel.Less (more t (more u stop)) f m k =
+      let one_more = two t (num (pos 1)) in
+      let known : AllFixed (step bits) one_more = (f.0, (normal-fixed (step bits) ((num_normal bits) (pos 1)), tt)) in
+      let s = (op_normal bits) op.Add one_more known in
+      let l = fixed-normal (step bits) u f.1.0 in
+      changes (fixed-normals (step bits) (two t u) f) refl (over_kids (step bits) (each s (each l nothing)) ((at_most_normal bits) (linear_term (node (h.Term op.Add) one_more)) u (normal-fixed (step bits) s) f.1.0))
+  compared_normal rel.AtMost (more t (more u stop)) f m k = (at_most_normal bits) t u f.0 f.1.0
+  compared_normal rel.Equal (more t (more u stop)) f m k = (equal_normal bits) t u f.0 f.1.0
+  compared_normal o us f m k = stays (fixed-normals (step bits) us f) ((form_step bits) o us ∙ ap (λ p. first_some p (first_of_rules formula_rules (h.Form o) us)) m ∙ ap (λ b. first_some (then_some b true_tree) None) k)
 
--- the rule that turns a formula with quantifiers
-turned_is : (t : Tree) → is_unquantified t ≡ false → inward (head_of t) (kids_in t) ≡ turned t
-turned_is (node (h.Forall x) stop) k = refl
-turned_is (node (h.Forall x) (more t stop)) k = refl
-turned_is (node (h.Forall x) (more t (more u stop))) k = refl
-turned_is (node (h.Forall x) (more t (more u (more f ts)))) k = same_shape ts
-  where
-    same_shape : (ts : Trees) → inward (h.Forall x) (more t (more u (more f ts))) ≡ turned (node (h.Forall x) (more t (more u (more f ts))))
-    same_shape stop = refl
-    same_shape (more v vs) = refl
-turned_is (node (h.Exists x) stop) k = refl
-turned_is (node (h.Exists x) (more t stop)) k = refl
-turned_is (node (h.Exists x) (more t (more u stop))) k = refl
-turned_is (node (h.Exists x) (more t (more u (more f ts)))) k = same_shape ts
-  where
-    same_shape : (ts : Trees) → inward (h.Exists x) (more t (more u (more f ts))) ≡ turned (node (h.Exists x) (more t (more u (more f ts))))
-    same_shape stop = refl
-    same_shape (more v vs) = refl
-turned_is (node h.And ts) k = refl
-turned_is (node h.Or ts) k = refl
-turned_is t k = absurd cc
+  by_memory : (o : FormOp) (us : Trees) → is_same_memory o us ≡ true → (step bits) (node (h.Form o) us) ≡ Some true_tree
+  by_memory rel.Same us k = ap (λ b. first_some (then_some b true_tree) None) k
+  by_memory (rel.Frame shapes) us k = ap (λ b. first_some (then_some b true_tree) None) k
+  by_memory o us k = absurd cc
 
-not_passes : (t : Tree) → Fixed step t → Passes h.Not (one t) (pass_not t)
-not_passes t f = go (is_unquantified t) refl
-  where
-    or_stays : (o : Option Tree) → inward (head_of t) (kids_in t) ≡ o → Passes h.Not (one t) (or_again o (not_of t))
-    or_stays None e = stays (each (fixed-normal step t f) nothing) (ap (λ o. first_some o None) e)
-    or_stays (Some w) e = ap (λ o. first_some o None) e
+  pub relation_normal : (o : FormOp) (us : Trees) → AllFixed (step bits) us → memory_step (h.Form o) us ≡ None → Normal (step bits) (node (h.Form o) us) (normal_relation o us)
+  relation_normal o us f m = go (is_same_memory o us) refl
+    where
+      go : (b : Bool) → is_same_memory o us ≡ b → Normal (step bits) (node (h.Form o) us) (cond b true_tree (compared o us))
+      go true k = changes (fixed-normals (step bits) us f) (by_memory o us k) ((truth_normal bits) true)
+      go false k = compared_normal o us f m k
 
-    go : (b : Bool) → is_unquantified t ≡ b → Passes h.Not (one t) (cond b (done (normal_not t)) (or_again (turned t) (not_of t)))
-    go true e = not_normal t f e
-    go false e = or_stays (turned t) (turned_is t e)
+  -- ---- what a pass makes
 
-implication_passes : (a b : Tree) → Fixed step a → Fixed step b → Passes h.Imp (two a b) (pass_implication a b)
-implication_passes a b f k = go (is_unquantified a) refl
-  where
-    go : (c : Bool) → is_unquantified a ≡ c → Passes h.Imp (two a b) (cond c (done (normal_junction false (normal_not a ∷ b ∷ []))) (again (either (not_of a) b)))
-    go true e = changes (fixed-normals step (two a b) (f, (k, tt))) refl (either_normal a b f k e)
-    go false e = refl
+  -- the normal form of the node, or what rules make of it
+  abbrev pub Passes : Head → Trees → Pass → Type 0
+  Passes head us (done v) = Normal (step bits) (node head us) v
+  Passes head us (again w) = (Comes bits) head us w
 
-equivalence_passes : (a b : Tree) → Fixed step a → Fixed step b → Passes h.Iff (two a b) (pass_equivalence a b)
-equivalence_passes a b f k = go (is_unquantified a) (is_unquantified b) refl refl
-  where
-    go : (c d : Bool) → is_unquantified a ≡ c → is_unquantified b ≡ d
-        → Passes h.Iff (two a b) (cond (c && d) (done (normal_junction true (normal_junction false (normal_not a ∷ b ∷ []) ∷ normal_junction false (a ∷ normal_not b ∷ []) ∷ []))) (again (both_ways a b)))
-    go true true e q =
-        let p = either_normal a b f k e in
-        let r = or_normal a b f k q in
-        changes (fixed-normals step (two a b) (f, (k, tt))) refl
-        (over_kids step (each p (each r nothing)) (junction_normal_at true (normal_junction false (normal_not a ∷ b ∷ []) ∷ normal_junction false (a ∷ normal_not b ∷ []) ∷ []) (normal-fixed step p, (normal-fixed step r, tt))))
-    go true false e q = refl
-    go false d e q = refl
+  -- the rule that turns a formula with quantifiers
+  turned_is : (t : Tree) → is_unquantified t ≡ false → inward (head_of t) (kids_in t) ≡ turned t
+  turned_is (node (h.Forall x) stop) k = refl
+  turned_is (node (h.Forall x) (more t stop)) k = refl
+  turned_is (node (h.Forall x) (more t (more u stop))) k = refl
+  turned_is (node (h.Forall x) (more t (more u (more f ts)))) k = same_shape ts
+    where
+      same_shape : (ts : Trees) → inward (h.Forall x) (more t (more u (more f ts))) ≡ turned (node (h.Forall x) (more t (more u (more f ts))))
+      same_shape stop = refl
+      same_shape (more v vs) = refl
+  turned_is (node (h.Exists x) stop) k = refl
+  turned_is (node (h.Exists x) (more t stop)) k = refl
+  turned_is (node (h.Exists x) (more t (more u stop))) k = refl
+  turned_is (node (h.Exists x) (more t (more u (more f ts)))) k = same_shape ts
+    where
+      same_shape : (ts : Trees) → inward (h.Exists x) (more t (more u (more f ts))) ≡ turned (node (h.Exists x) (more t (more u (more f ts))))
+      same_shape stop = refl
+      same_shape (more v vs) = refl
+  turned_is (node h.And ts) k = refl
+  turned_is (node h.Or ts) k = refl
+  turned_is t k = absurd cc
 
-quantifier_passes : (b : Bool) (x : List ℕ) (t u a : Tree) → AllFixed step (three t u a)
-    → step (node (quantifier b x) (three t u a)) ≡ first_some (empty_rule b x t u a) (first_some (single_range_rule b x t u a) None) → Passes (quantifier b x) (three t u a) (pass_quantifier b x t u a)
-quantifier_passes b x t u a f e = go (is_empty_between (number_at t) (number_at u) || is_truth_constant b a) refl
-  where
-    ks : Normals step (three t u a) (three t u a)
-    ks = fixed-normals step (three t u a) f
+  not_passes : (t : Tree) → Fixed (step bits) t → Passes h.Not (one t) (pass_not t)
+  not_passes t f = go (is_unquantified t) refl
+    where
+      or_stays : (o : Option Tree) → inward (head_of t) (kids_in t) ≡ o → Passes h.Not (one t) (or_again o (not_of t))
+      or_stays None e = stays (each (fixed-normal (step bits) t f) nothing) (ap (λ o. first_some o None) e)
+      or_stays (Some w) e = at_once (ap (λ o. first_some o None) e)
 
-    at : (o : Option Tree) → single_range_rule b x t u a ≡ o → step (node (quantifier b x) (three t u a)) ≡ first_some o None → Passes (quantifier b x) (three t u a) (or_again o (node (quantifier b x) (three t u a)))
-    at None q k = stays ks k
-    at (Some w) q k = k
+      go : (b : Bool) → is_unquantified t ≡ b → Passes h.Not (one t) (cond b (done (normal_not t)) (or_again (turned t) (not_of t)))
+      go true e = not_normal t f e
+      go false e = or_stays (turned t) (turned_is t e)
 
-    go : (c : Bool) → is_empty_between (number_at t) (number_at u) || is_truth_constant b a ≡ c
-        → Passes (quantifier b x) (three t u a) (cond c (done (truth_constant b)) (or_again (single_range_rule b x t u a) (node (quantifier b x) (three t u a))))
-    go true q = changes ks (e ∙ ap (λ c. first_some (then_some c (truth_constant b)) (first_some (single_range_rule b x t u a) None)) q) (truth_normal b)
-    go false q = at (single_range_rule b x t u a) refl (e ∙ ap (λ c. first_some (then_some c (truth_constant b)) (first_some (single_range_rule b x t u a) None)) q)
+  implication_passes : (a b : Tree) → Fixed (step bits) a → Fixed (step bits) b → Passes h.Imp (two a b) (pass_implication a b)
+  implication_passes a b f k = go (is_unquantified a) refl
+    where
+      go : (c : Bool) → is_unquantified a ≡ c → Passes h.Imp (two a b) (cond c (done (normal_junction false (normal_not a ∷ b ∷ []))) (again (either (not_of a) b)))
+      go true e = changes (fixed-normals (step bits) (two a b) (f, (k, tt))) refl (either_normal a b f k e)
+      go false e = at_once refl
 
-pub passes : (head : Head) (us : Trees) → AllFixed step us → Passes head us (pass head us)
-passes (h.Num z) us f = number_normal z us f (fixed-normals step us f)
-passes (h.Term o) us f = op_normal o us f
-passes h.Ite (more c (more t (more u stop))) f = ite_normal c t u f
-passes (h.Form o) us f = relation_normal o us f
-passes h.And us f = subst (λ ts. Normal step (node h.And ts) (normal_junction true (list_of us))) (trees_of-list_of us) (junction_normal true (list_of us) (each_fixed us f))
-passes h.Or us f = subst (λ ts. Normal step (node h.Or ts) (normal_junction false (list_of us))) (trees_of-list_of us) (junction_normal false (list_of us) (each_fixed us f))
-passes h.Not (more t stop) f = not_passes t f.0
-passes h.Imp (more a (more b stop)) f = implication_passes a b f.0 f.1.0
-passes h.Iff (more a (more b stop)) f = equivalence_passes a b f.0 f.1.0
-passes (h.Forall x) (more t (more u (more a stop))) f = quantifier_passes true x t u a f refl
-passes (h.Exists x) (more t (more u (more a stop))) f = quantifier_passes false x t u a f refl
-passes head us f = stays (fixed-normals step us f) refl
+  equivalence_passes : (a b : Tree) → Fixed (step bits) a → Fixed (step bits) b → Passes h.Iff (two a b) (pass_equivalence a b)
+  equivalence_passes a b f k = go (is_unquantified a) (is_unquantified b) refl refl
+    where
+      go : (c d : Bool) → is_unquantified a ≡ c → is_unquantified b ≡ d
+          → Passes h.Iff (two a b) (cond (c && d) (done (normal_junction true (normal_junction false (normal_not a ∷ b ∷ []) ∷ normal_junction false (a ∷ normal_not b ∷ []) ∷ []))) (again (both_ways a b)))
+      go true true e q =
+          let p = either_normal a b f k e in
+          let r = or_normal a b f k q in
+          changes (fixed-normals (step bits) (two a b) (f, (k, tt))) refl
+          (over_kids (step bits) (each p (each r nothing)) (junction_normal_at true (normal_junction false (normal_not a ∷ b ∷ []) ∷ normal_junction false (a ∷ normal_not b ∷ []) ∷ []) (normal-fixed (step bits) p, (normal-fixed (step bits) r, tt))))
+      go true false e q = at_once refl
+      go false d e q = at_once refl
+
+  quantifier_passes : (b : Bool) (x : List ℕ) (t u a : Tree) → AllFixed (step bits) (three t u a)
+      → (step bits) (node (quantifier b x) (three t u a)) ≡ first_some (empty_rule b x t u a) (first_some (single_range_rule b x t u a) None) → Passes (quantifier b x) (three t u a) (pass_quantifier b x t u a)
+  quantifier_passes b x t u a f e = go (is_empty_between (number_at t) (number_at u) || is_truth_constant b a) refl
+    where
+      ks : Normals (step bits) (three t u a) (three t u a)
+      ks = fixed-normals (step bits) (three t u a) f
+
+      at : (o : Option Tree) → single_range_rule b x t u a ≡ o → (step bits) (node (quantifier b x) (three t u a)) ≡ first_some o None → Passes (quantifier b x) (three t u a) (or_again o (node (quantifier b x) (three t u a)))
+      at None q k = stays ks k
+      at (Some w) q k = at_once k
+
+      go : (c : Bool) → is_empty_between (number_at t) (number_at u) || is_truth_constant b a ≡ c
+          → Passes (quantifier b x) (three t u a) (cond c (done (truth_constant b)) (or_again (single_range_rule b x t u a) (node (quantifier b x) (three t u a))))
+      go true q = changes ks (e ∙ ap (λ c. first_some (then_some c (truth_constant b)) (first_some (single_range_rule b x t u a) None)) q) ((truth_normal bits) b)
+      go false q = at (single_range_rule b x t u a) refl (e ∙ ap (λ c. first_some (then_some c (truth_constant b)) (first_some (single_range_rule b x t u a) None)) q)
+
+  -- a relation that asks of a block
+  asked_passes : (o : FormOp) (t b : Tree) (ts : Trees) → asks (h.Form o) ts ≡ true → AllFixed (step bits) (more t (more b ts)) → Passes (h.Form o) (more t (more b ts)) (or_again (memory_pass (h.Form o) (more t (more b ts))) (node (h.Form o) (more t (more b ts))))
+  asked_passes o t b ts a f = go (memory_pass (h.Form o) us) refl
+    where
+      us : Trees
+      us = more t (more b ts)
+
+      go : (p : Option Tree) → memory_pass (h.Form o) us ≡ p → Passes (h.Form o) us (or_again p (node (h.Form o) us))
+      go None e = stays (fixed-normals (step bits) us f) ((asked_none bits) o t b ts a e)
+      go (Some w) e = (asked_comes bits) o t b ts w a f e
+
+  relation_passes : (o : FormOp) (us : Trees) → AllFixed (step bits) us → Passes (h.Form o) us (pass_relation o us)
+  relation_passes (rel.Read k) (more t (more b (more x stop))) f = asked_passes (rel.Read k) t b (one x) refl f
+  relation_passes (rel.Write k) (more t (more b (more x stop))) f = asked_passes (rel.Write k) t b (one x) refl f
+  relation_passes rel.Live (more t (more b stop)) f = asked_passes rel.Live t b stop refl f
+  relation_passes o us f = relation_normal o us f refl
+
+  pub passes : (head : Head) (us : Trees) → AllFixed (step bits) us → Passes head us ((pass bits) head us)
+  passes (h.Num z) us f = (number_normal bits) z us f (fixed-normals (step bits) us f)
+  passes (h.Term o) us f = (op_normal bits) o us f
+  passes h.Ite (more c (more t (more u stop))) f = ite_normal c t u f
+  passes (h.Form o) us f = relation_passes o us f
+  passes h.And us f = subst (λ ts. Normal (step bits) (node h.And ts) (normal_junction true (list_of us))) (trees_of-list_of us) ((junction_normal bits) true (list_of us) ((each_fixed bits) us f))
+  passes h.Or us f = subst (λ ts. Normal (step bits) (node h.Or ts) (normal_junction false (list_of us))) (trees_of-list_of us) ((junction_normal bits) false (list_of us) ((each_fixed bits) us f))
+  passes h.Not (more t stop) f = not_passes t f.0
+  passes h.Imp (more a (more b stop)) f = implication_passes a b f.0 f.1.0
+  passes h.Iff (more a (more b stop)) f = equivalence_passes a b f.0 f.1.0
+  passes (h.Forall x) (more t (more u (more a stop))) f = quantifier_passes true x t u a f refl
+  passes (h.Exists x) (more t (more u (more a stop))) f = quantifier_passes false x t u a f refl
+  passes head us f = stays (fixed-normals (step bits) us f) refl

@@ -9,88 +9,95 @@ use Rattle.qed_terms.specs.View.{term_tree, formula_tree}
 use Rattle.qed_terms.specs.Tree.{Tree, node, Trees, stop, trees_of}
 use Rattle.qed_rules.specs.Rules.{step}
 use Rattle.qed_rules.specs.Passes.{Pass, done, again, pass}
-use Rattle.qed_simplify.specs.Normal.{Normal, Normals, Settles, stays, changes, nothing, each}
-use Rattle.qed_simplify.proofs.Derived.{firsts, normals-fixed, over_kids}
+use Rattle.qed_simplify.specs.Normal.{Normal, Normals, Settles, stays, nothing, each}
+use Rattle.qed_simplify.proofs.Derived.{firsts, fixed-normals, normals-fixed, over_kids}
+use Rattle.qed_simplify.proofs.Memories.{Comes, at_once, first, comes_normal}
 use Rattle.qed_simplify.proofs.Existence.{work_on, works_on, kids_work, next_work}
 use Rattle.qed_simplify.proofs.Passed.{Passes, passes}
 use Rattle.qed_linear.proofs.Places.{one_off, take_one, map_append}
 
--- ---- work
+module _ (bits : ℕ) where
+  -- ---- work
 
-abbrev pub pass_work : Pass → ℕ
-pass_work (done t) = 0
-pass_work (again t) = 2 * work_on t + 1
+  abbrev pub pass_work : Pass → ℕ
+  pass_work (done t) = 0
+  pass_work (again t) = 2 * (work_on bits) t + 1
 
-works_append : (ts us : List Tree) → works_on (trees_of (ts ++ us)) ≡ works_on (trees_of ts) + works_on (trees_of us)
-works_append [] us = omega arith
-works_append (t ∷ ts) us = let k = works_append ts us in omega (arith, k)
+  works_append : (ts us : List Tree) → (works_on bits) (trees_of (ts ++ us)) ≡ (works_on bits) (trees_of ts) + (works_on bits) (trees_of us)
+  works_append [] us = omega arith
+  works_append (t ∷ ts) us = let k = works_append ts us in omega (arith, k)
 
--- an item of a list is no more work than the list
-pub item_work : {X : Type 0} (view : X → Tree) (xs : List X) (i : ℕ) (x : X) → i < length xs → x ≡ get_or xs i x → work_on (view x) ≤ works_on (trees_of (map view xs))
-item_work view xs i x k e =
-    let split : xs ≡ take i xs ++ (x ∷ drop (i + 1) xs) = sym (take-append-drop i xs) ∙ ap (λ ys. take i xs ++ ys) (one_off xs i x k e) in
-    let all = ap (λ ys. works_on (trees_of (map view ys))) split ∙ ap (λ ts. works_on (trees_of ts)) (map_append view (take i xs) (x ∷ drop (i + 1) xs)) ∙ works_append (map view (take i xs)) (map view (x ∷ drop (i + 1) xs)) in
-    omega (arith, all)
+  -- an item of a list is no more work than the list
+  pub item_work : {X : Type 0} (view : X → Tree) (xs : List X) (i : ℕ) (x : X) → i < length xs → x ≡ get_or xs i x → (work_on bits) (view x) ≤ (works_on bits) (trees_of (map view xs))
+  item_work view xs i x k e =
+      let split : xs ≡ take i xs ++ (x ∷ drop (i + 1) xs) = sym (take-append-drop i xs) ∙ ap (λ ys. take i xs ++ ys) (one_off xs i x k e) in
+      let all = ap (λ ys. (works_on bits) (trees_of (map view ys))) split ∙ ap (λ ts. (works_on bits) (trees_of ts)) (map_append view (take i xs) (x ∷ drop (i + 1) xs)) ∙ works_append (map view (take i xs)) (map view (x ∷ drop (i + 1) xs)) in
+      omega (arith, all)
 
--- a node's kids, where the node is given by an equation
-pub less : (t : Tree) (head : Head) (ts : Trees) → t ≡ node head ts → works_on ts < work_on t
-less t head ts e = let a = kids_work head ts in let b = ap work_on e in omega (arith, a, b)
+  -- a node's kids, where the node is given by an equation
+  pub less : (t : Tree) (head : Head) (ts : Trees) → t ≡ node head ts → (works_on bits) ts < (work_on bits) t
+  less t head ts e = let a = (kids_work bits) head ts in let b = ap (work_on bits) e in omega (arith, a, b)
 
--- what goes again is less work than the node
-pub pass_less : (t : Tree) (head : Head) (ts us : Trees) (p : Pass) → t ≡ node head ts → Normals step ts us → p ≡ pass head us → pass_work p < 2 * work_on t
-pass_less t head ts us p e ks q = go p (subst (Passes head us) (sym q) (passes head us (normals-fixed step ks)))
-  where
-    go : (p : Pass) → Passes head us p → pass_work p < 2 * work_on t
-    go (done v) d = let a = kids_work head ts in let b = ap work_on e in omega (arith, a, b)
-    go (again w) d = let a = next_work head w ks d in let b = ap work_on e in omega (arith, a, b)
+  -- what rules come to is less work than the node
+  comes_less : {head : Head} {ts us : Trees} {w : Tree} → (Comes bits) head us w → Normals (step bits) ts us → (work_on bits) w < (work_on bits) (node head ts)
+  comes_less {ts = ts} (at_once {head} {us} {w} e) ks = (next_work bits) head w ks e
+  comes_less {ts = ts} (first {head} {us} {vs} {w} e k c) ks = let a = (next_work bits) head (node head vs) ks e in let b = comes_less c (fixed-normals (step bits) vs k) in omega (arith, a, b)
 
--- ---- the normal form of a node
+  -- what goes again is less work than the node
+  pub pass_less : (t : Tree) (head : Head) (ts us : Trees) (p : Pass) → t ≡ node head ts → Normals (step bits) ts us → p ≡ (pass bits) head us → pass_work p < 2 * (work_on bits) t
+  pass_less t head ts us p e ks q = go p (subst ((Passes bits) head us) (sym q) ((passes bits) head us (normals-fixed (step bits) ks)))
+    where
+      go : (p : Pass) → (Passes bits) head us p → pass_work p < 2 * (work_on bits) t
+      go (done v) d = let a = (kids_work bits) head ts in let b = ap (work_on bits) e in omega (arith, a, b)
+      go (again w) d = let a = comes_less d ks in let b = ap (work_on bits) e in omega (arith, a, b)
 
--- where the pass is done
-pub made : (t : Tree) (head : Head) (ts us : Trees) (v w : Tree) → t ≡ node head ts → Normals step ts us → pass head us ≡ done w → v ≡ w → Normal step t v
-made t head ts us v w e ks q same =
-    subst (λ z. Normal step z v) (sym e) (subst (Normal step (node head ts)) (sym same) (over_kids step ks (subst (Passes head us) q (passes head us (normals-fixed step ks)))))
+  -- ---- the normal form of a node
 
--- where what it made goes again
-pub settled_at : (t : Tree) (head : Head) (ts us : Trees) (v : Tree) (p : Pass) → t ≡ node head ts → Normals step ts us → p ≡ pass head us → Settles p v → Normal step t v
-settled_at t head ts us v p e ks q s = subst (λ z. Normal step z v) (sym e) (go p (subst (Passes head us) (sym q) (passes head us (normals-fixed step ks))) s)
-  where
-    go : (p : Pass) → Passes head us p → Settles p v → Normal step (node head ts) v
-    go (done w) d same = subst (Normal step (node head ts)) (sym same) (over_kids step ks d)
-    go (again w) d n = changes ks d n
+  -- where the pass is done
+  pub made : (t : Tree) (head : Head) (ts us : Trees) (v w : Tree) → t ≡ node head ts → Normals (step bits) ts us → (pass bits) head us ≡ done w → v ≡ w → Normal (step bits) t v
+  made t head ts us v w e ks q same =
+      subst (λ z. Normal (step bits) z v) (sym e) (subst (Normal (step bits) (node head ts)) (sym same) (over_kids (step bits) ks (subst ((Passes bits) head us) q ((passes bits) head us (normals-fixed (step bits) ks)))))
 
--- ---- lists
+  -- where what it made goes again
+  pub settled_at : (t : Tree) (head : Head) (ts us : Trees) (v : Tree) (p : Pass) → t ≡ node head ts → Normals (step bits) ts us → p ≡ (pass bits) head us → (Settles bits) p v → Normal (step bits) t v
+  settled_at t head ts us v p e ks q s = subst (λ z. Normal (step bits) z v) (sym e) (go p (subst ((Passes bits) head us) (sym q) ((passes bits) head us (normals-fixed (step bits) ks))) s)
+    where
+      go : (p : Pass) → (Passes bits) head us p → (Settles bits) p v → Normal (step bits) (node head ts) v
+      go (done w) d same = subst (Normal (step bits) (node head ts)) (sym same) (over_kids (step bits) ks d)
+      go (again w) d n = over_kids (step bits) ks ((comes_normal bits) v d (normals-fixed (step bits) ks) n)
 
-normals_append : (ts us vs ws : List Tree) → Normals step (trees_of ts) (trees_of us) → Normals step (trees_of vs) (trees_of ws) → Normals step (trees_of (ts ++ vs)) (trees_of (us ++ ws))
-normals_append [] [] vs ws n d = d
-normals_append [] (u ∷ us) vs ws n d = let f = firsts step n in let e = f.0 in absurd cc
-normals_append (t ∷ ts) [] vs ws n d = let f = firsts step n in let e = f.4 in absurd cc
-normals_append (t ∷ ts) (u ∷ us) vs ws n d =
-    let f = firsts step n in
-    let e = f.4 in
-    let first : f.0 ≡ u = cc in
-    let rest : f.1 ≡ trees_of us = cc in
-    each (subst (Normal step t) first f.2) (normals_append ts us vs ws (subst (Normals step (trees_of ts)) rest f.3) d)
+  -- ---- lists
 
--- one more item
-pub normals_more : {X Y : Type 0} (view : X → Tree) (view' : Y → Tree) (xs : List X) (ys : List Y) (i : ℕ) (x : X) (y : Y) → i < length xs → x ≡ get_or xs i x
-    → Normals step (trees_of (map view (take i xs))) (trees_of (map view' ys)) → Normal step (view x) (view' y) → Normals step (trees_of (map view (take (i + 1) xs))) (trees_of (map view' (ys ++ y ∷ [])))
-normals_more view view' xs ys i x y k e ns n =
-    let a = ap (map view) (take_one xs i x k e) ∙ map_append view (take i xs) (x ∷ []) in
-    let b = map_append view' ys (y ∷ []) in
-    subst (λ ts. Normals step (trees_of ts) (trees_of (map view' (ys ++ y ∷ [])))) (sym a) (subst (λ us. Normals step (trees_of (map view (take i xs) ++ view x ∷ [])) (trees_of us)) (sym b) (normals_append (map view (take i xs)) (map view' ys) (view x ∷ []) (view' y ∷ []) ns (each n nothing)))
+  normals_append : (ts us vs ws : List Tree) → Normals (step bits) (trees_of ts) (trees_of us) → Normals (step bits) (trees_of vs) (trees_of ws) → Normals (step bits) (trees_of (ts ++ vs)) (trees_of (us ++ ws))
+  normals_append [] [] vs ws n d = d
+  normals_append [] (u ∷ us) vs ws n d = let f = firsts (step bits) n in let e = f.0 in absurd cc
+  normals_append (t ∷ ts) [] vs ws n d = let f = firsts (step bits) n in let e = f.4 in absurd cc
+  normals_append (t ∷ ts) (u ∷ us) vs ws n d =
+      let f = firsts (step bits) n in
+      let e = f.4 in
+      let front : f.0 ≡ u = cc in
+      let rest : f.1 ≡ trees_of us = cc in
+      each (subst (Normal (step bits) t) front f.2) (normals_append ts us vs ws (subst (Normals (step bits) (trees_of ts)) rest f.3) d)
 
--- ---- a term or a formula behind a box
+  -- one more item
+  pub normals_more : {X Y : Type 0} (view : X → Tree) (view' : Y → Tree) (xs : List X) (ys : List Y) (i : ℕ) (x : X) (y : Y) → i < length xs → x ≡ get_or xs i x
+      → Normals (step bits) (trees_of (map view (take i xs))) (trees_of (map view' ys)) → Normal (step bits) (view x) (view' y) → Normals (step bits) (trees_of (map view (take (i + 1) xs))) (trees_of (map view' (ys ++ y ∷ [])))
+  normals_more view view' xs ys i x y k e ns n =
+      let a = ap (map view) (take_one xs i x k e) ∙ map_append view (take i xs) (x ∷ []) in
+      let b = map_append view' ys (y ∷ []) in
+      subst (λ ts. Normals (step bits) (trees_of ts) (trees_of (map view' (ys ++ y ∷ [])))) (sym a) (subst (λ us. Normals (step bits) (trees_of (map view (take i xs) ++ view x ∷ [])) (trees_of us)) (sym b) (normals_append (map view (take i xs)) (map view' ys) (view x ∷ []) (view' y ∷ []) ns (each n nothing)))
 
-pub formula_of : (f g : Formula) (u : Tree) → f ≡ g → Normal step (formula_tree f) u → Normal step (formula_tree g) u
-formula_of f g u e n = subst (λ z. Normal step (formula_tree z) u) e n
+  -- ---- a term or a formula behind a box
 
-pub term_of : (t s : Term) (u : Tree) → t ≡ s → Normal step (term_tree t) u → Normal step (term_tree s) u
-term_of t s u e n = subst (λ z. Normal step (term_tree z) u) e n
+  pub formula_of : (f g : Formula) (u : Tree) → f ≡ g → Normal (step bits) (formula_tree f) u → Normal (step bits) (formula_tree g) u
+  formula_of f g u e n = subst (λ z. Normal (step bits) (formula_tree z) u) e n
 
--- a number or a name is its own normal form
-pub leaf : (t : Tree) (head : Head) → t ≡ node head stop → Normal step (node head stop) (node head stop) → Normal step t t
-leaf t head e n = subst (λ z. Normal step z z) (sym e) n
+  pub term_of : (t s : Term) (u : Tree) → t ≡ s → Normal (step bits) (term_tree t) u → Normal (step bits) (term_tree s) u
+  term_of t s u e n = subst (λ z. Normal (step bits) (term_tree z) u) e n
 
-pub name_normal : (x : List ℕ) (s : Sort) → Normal step (node (h.Var x s) stop) (node (h.Var x s) stop)
-name_normal x s = stays nothing refl
+  -- a number or a name is its own normal form
+  pub leaf : (t : Tree) (head : Head) → t ≡ node head stop → Normal (step bits) (node head stop) (node head stop) → Normal (step bits) t t
+  leaf t head e n = subst (λ z. Normal (step bits) z z) (sym e) n
+
+  pub name_normal : (x : List ℕ) (s : Sort) → Normal (step bits) (node (h.Var x s) stop) (node (h.Var x s) stop)
+  name_normal x s = stays nothing refl

@@ -1,6 +1,6 @@
--- A weight of trees under numbers for their names: how many quantifiers are met where each range has its beginning alone. It falls where a
--- quantifier goes, and no rule makes it rise.
-use Rattle.std.proofs.Common.{◌≡◌, ◌⊎◌, inl, inr, ℕ, suc, ◌+◌, ◌*◌, ◌≤◌, Bool, true, false, not, ◌&&◌, ◌||◌, cond, List, bytes_eq, refl, sym, ◌∙◌, ap, arith}
+-- A weight of trees under numbers for their names: how many quantifiers stand in one another where each range has its beginning alone, a name
+-- having as many as its number. It falls where a quantifier goes, and no rule makes it rise, however often a rule copies what it is over.
+use Rattle.std.proofs.Common.{◌≡◌, ◌⊎◌, inl, inr, ℕ, suc, max, ◌≤◌, Bool, true, false, not, ◌&&◌, ◌||◌, cond, List, bytes_eq, refl, sym, ◌∙◌, ap, arith}
 use Rattle.qed_terms.specs.declared.head.Sort.{Sort}
 use Rattle.qed_terms.specs.declared.head.Sort.TheVariants as sort
 use Rattle.qed_terms.specs.declared.head.Head.{Head}
@@ -30,21 +30,20 @@ least = λ y s. 0
 
 abbrev mutual
   pub weight : Tree → Numbers → ℕ
-  weight (node (h.Var x s) ts) e = e x s + weights ts e
-  weight (node h.Iff ts) e = 2 * weights ts e
+  weight (node (h.Var x s) ts) e = max (e x s) (weights ts e)
   weight (node (h.Forall x) ts) e = range_weight x ts e
   weight (node (h.Exists x) ts) e = range_weight x ts e
   weight (node head ts) e = weights ts e
 
   pub weights : Trees → Numbers → ℕ
   weights stop e = 0
-  weights (more t ts) e = weight t e + weights ts e
+  weights (more t ts) e = max (weight t e) (weights ts e)
 
   pub range_weight : List ℕ → Trees → Numbers → ℕ
   range_weight x stop e = 0
   range_weight x (more low stop) e = weight low e
-  range_weight x (more low (more high stop)) e = weight low e + weight high e
-  range_weight x (more low (more high (more f ts))) e = suc (weight low e + weight high e + weight f (with_number e x (weight low e)) + weights ts e)
+  range_weight x (more low (more high stop)) e = max (weight low e) (weight high e)
+  range_weight x (more low (more high (more f ts))) e = suc (max (max (weight low e) (weight high e)) (max (weight f (with_number e x (weight low e))) (weights ts e)))
 
 -- ---- what is free in a kid
 
@@ -157,7 +156,6 @@ mutual
       let own = k x r (this_free x r (free_among false x r ts)) in
       let rest = weights_grow ts e e' (λ y s q. k y s (rest_free (bytes_eq y x && same_sort s r) (free_among false y s ts) q)) in
       omega (arith, own, rest)
-  grows (node h.Iff ts) e e' k = let r = weights_grow ts e e' k in omega (arith, r)
   grows (node (h.Forall x) (more low (more high (more f ts)))) e e' k =
       let a = grows low e e' (λ y s q. k y s (first_free y s x low high f ts q)) in
       range_grows x low high f ts e e' a (grows high e e' (λ y s q. k y s (second_free y s x low high f ts q)))
@@ -202,7 +200,6 @@ range_within x (more low (more high (more f ts))) = let k = at_least f (with_num
 
 pub kids_within : (head : Head) (ts : Trees) → weights ts least ≤ weight (node head ts) least
 kids_within (h.Var x s) ts = omega arith
-kids_within h.Iff ts = omega arith
 kids_within (h.Forall x) ts = range_within x ts
 kids_within (h.Exists x) ts = range_within x ts
 kids_within head ts = omega arith
@@ -220,14 +217,14 @@ module _ (x : List ℕ) (u : Tree) where
   Weighs t = (under : Bool) (e e' : Numbers) → Above e e' → Given under e e' → is_clear under x u t ≡ true → weight (replace x u t) e ≤ weight t e'
 
   at_name : (under : Bool) (y : List ℕ) (ts us : Trees) (e e' : Numbers) → Above e e' → Given under e e' → not (under && bytes_eq x y) ≡ true → weights us e ≤ weights ts e'
-      → weight (cond (bytes_eq x y) u (node (h.Var y sort.Int) us)) e ≤ e' y sort.Int + weights ts e'
+      → weight (cond (bytes_eq x y) u (node (h.Var y sort.Int) us)) e ≤ max (e' y sort.Int) (weights ts e')
   at_name under y ts us e e' a g k l = go (bytes_eq x y) refl k
     where
       open_at : (b : Bool) → not (b && true) ≡ true → b ≡ false
       open_at true q = absurd cc
       open_at false q = refl
 
-      go : (b : Bool) → bytes_eq x y ≡ b → not (under && b) ≡ true → weight (cond b u (node (h.Var y sort.Int) us)) e ≤ e' y sort.Int + weights ts e'
+      go : (b : Bool) → bytes_eq x y ≡ b → not (under && b) ≡ true → weight (cond b u (node (h.Var y sort.Int) us)) e ≤ max (e' y sort.Int) (weights ts e')
       go true p q = let r = g (open_at under q) in let s = ap (λ z. e' z sort.Int) (same_name x y p) in omega (arith, r, s)
       go false p q = let r = a y sort.Int (ap (λ b. b && true) p) in omega (arith, r, l)
 
@@ -280,7 +277,6 @@ module _ (x : List ℕ) (u : Tree) where
         at_name under y ts (replace_all x u ts) e e' a g (and_left (not (under && bytes_eq x y)) (are_clear under x u ts) k) (replace_all_weigh ts under e e' a g (and_right (not (under && bytes_eq x y)) (are_clear under x u ts) k))
     replace_weighs (node (h.Var y sort.Memory) ts) under e e' a g k = let o = a y sort.Memory (never (bytes_eq x y)) in let r = replace_all_weigh ts under e e' a g k in omega (arith, o, r)
     replace_weighs (node (h.Var y sort.Table) ts) under e e' a g k = let o = a y sort.Table (never (bytes_eq x y)) in let r = replace_all_weigh ts under e e' a g k in omega (arith, o, r)
-    replace_weighs (node h.Iff ts) under e e' a g k = let r = replace_all_weigh ts under e e' a g k in omega (arith, r)
     replace_weighs (node (h.Forall y) (more low (more high (more f stop)))) under e e' a g k =
         range_weighs y low high f (λ v d d' a' g' k'. replace_weighs low v d d' a' g' k') (λ v d d' a' g' k'. replace_weighs high v d d' a' g' k') (λ v d d' a' g' k'. replace_weighs f v d d' a' g' k') under e e' a g k
     replace_weighs (node (h.Exists y) (more low (more high (more f stop)))) under e e' a g k =

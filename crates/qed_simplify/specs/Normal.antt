@@ -6,6 +6,7 @@ use Rattle.qed_terms.specs.declared.head.Head.{Head}
 use Rattle.qed_terms.specs.declared.head.Head.TheVariants as h
 use Rattle.qed_terms.specs.Tree.{Tree, node, Trees, stop, more}
 use Rattle.qed_terms.specs.Meaning.{World, Values, meaning}
+use Rattle.qed_memories.specs.Alike.{Alike, RespectsAlike}
 use Rattle.qed_rules.specs.Rules.{step}
 use Rattle.qed_rules.specs.Passes.{Pass, done, again}
 
@@ -20,21 +21,21 @@ mutual
     each : {t u : Tree} {ts us : Trees} → Normal step t u → Normals step ts us → Normals step (more t ts) (more u us)
 
 -- the tree that a pass made, or the normal form of what has to go again
-abbrev pub Settles : Pass → Tree → Type 0
-Settles (done t) u = u ≡ t
-Settles (again t) u = Normal step t u
+abbrev pub Settles : (long_bits : ℕ) → Pass → Tree → Type 0
+Settles bits (done t) u = u ≡ t
+Settles bits (again t) u = Normal (step bits) t u
 
 -- each tree has a normal form: the rules come to an end
 abbrev pub EachHasNormal : Type 0
-EachHasNormal = (t : Tree) → (u : Tree) × Normal step t u
+EachHasNormal = (bits : ℕ) → (t : Tree) → (u : Tree) × Normal (step bits) t u
 
 -- a tree has one normal form
 abbrev pub NormalIsOne : Type 0
-NormalIsOne = (t u v : Tree) → Normal step t u → Normal step t v → u ≡ v
+NormalIsOne = (bits : ℕ) → (t u v : Tree) → Normal (step bits) t u → Normal (step bits) t v → u ≡ v
 
 -- a normal form is its own
 abbrev pub NormalIsSettled : Type 0
-NormalIsSettled = (t u : Tree) → Normal step t u → Normal step u u
+NormalIsSettled = (bits : ℕ) → (t u : Tree) → Normal (step bits) t u → Normal (step bits) u u
 
 abbrev mutual
   -- how many quantifiers stand above the relations of a formula, where an equivalence has its parts twice
@@ -54,12 +55,13 @@ abbrev mutual
 
 -- a normal form has no more of them
 abbrev pub NormalQuantifiers : Type 0
-NormalQuantifiers = (t u : Tree) → Normal step t u → quantifiers u ≤ quantifiers t
+NormalQuantifiers = (bits : ℕ) → (t u : Tree) → Normal (step bits) t u → quantifiers u ≤ quantifiers t
 
 -- a normal form has no free name that its tree hasn't
 abbrev pub NormalFreeNames : Type 0
-NormalFreeNames = (t u : Tree) → Normal step t u → (x : List ℕ) (s : Sort) → is_free x s u ≡ true → is_free x s t ≡ true
+NormalFreeNames = (bits : ℕ) → (t u : Tree) → Normal (step bits) t u → (x : List ℕ) (s : Sort) → is_free x s u ≡ true → is_free x s t ≡ true
 
--- a normal form means what the tree means, in each world and under all values
+-- A normal form means what the tree means, under all values in each world whose logic functions don't tell alike memories apart, as those of a
+-- setting don't, and where `long` is as wide: an equal integer, truth value or table, or a memory that holds the same at each address.
 abbrev pub NormalKeepsMeaning : Type 0
-NormalKeepsMeaning = (t u : Tree) → Normal step t u → (w : World) (env : Values) → meaning w env u ≡ meaning w env t
+NormalKeepsMeaning = (bits : ℕ) → (t u : Tree) → Normal (step bits) t u → (w : World) → w.long_bits ≡ bits → RespectsAlike w → (env : Values) → Alike (meaning w env u) (meaning w env t)

@@ -2,6 +2,7 @@
 ghost use Rattle.std.specs.Prelude.{◌≡◌, IfOk};
 ghost use Rattle.qed_terms.specs.Meaning.{World, Values, truth};
 ghost use Rattle.qed_terms.specs.View.{formula_tree};
+ghost use Rattle.qed_memories.specs.Alike.{RespectsAlike};
 ghost use Rattle.qed_rules.specs.Rules.{step};
 ghost use Rattle.qed_simplify.specs.Normal.{EachHasNormal, Normal, NormalFreeNames, NormalIsOne, NormalIsSettled, NormalKeepsMeaning, NormalQuantifiers};
 
@@ -11,13 +12,12 @@ use std::alloc::Global;
 use wp_base::NoMemory;
 
 /// The normal form of a formula: kids first, from the left, and at each node the first rule of the table that changes
-/// it, whose result is brought to normal form in the same way.
-#[tactic(auto, using(crate::proofs::Laws::means))]
-pub fn normal(alloc: Global, formula: &Formula) -> Result<Formula, NoMemory>
-    ensures normal { IfOk result (λ r. Normal step (formula_tree formula.now) (formula_tree r)) }
-    ensures same { IfOk result (λ r. (w : World) (env : Values) → truth w env (formula_tree r) ≡ truth w env (formula_tree formula.now)) }
+/// it, whose result is brought to normal form in the same way; `long` has so many bits.
+pub fn normal(alloc: Global, formula: &Formula, long_bits: u8) -> Result<Formula, NoMemory>
+    ensures normal { IfOk result (λ r. Normal (step long_bits) (formula_tree formula.now) (formula_tree r)) }
+    ensures same { IfOk result (λ r. (w : World) → w.long_bits ≡ long_bits → RespectsAlike w → (env : Values) → truth w env (formula_tree r) ≡ truth w env (formula_tree formula.now)) }
 {
-    let normal = normalise(alloc, formula)?;
+    let normal = normalise(alloc, long_bits, formula)?;
     Ok(normal)
 }
 
@@ -46,7 +46,7 @@ pub fn normal_quantifiers()
     ensures { NormalQuantifiers }
 {}
 
-/// A normal form means what the tree means.
+/// A normal form means what the tree means, where logic functions don't tell memories apart that hold the same.
 pub fn normal_keeps_meaning()
     ensures { NormalKeepsMeaning }
 {}

@@ -12,7 +12,7 @@ use wp_base::{List, NoMemory, Str};
 
 fn normal_of(alloc: Global, goal: &Goal) -> Result<Formula, NoMemory> {
     let formula = goal.formula(alloc)?;
-    normal(alloc, &formula)
+    normal(alloc, &formula, 64)
 }
 
 fn text_of(alloc: Global, check: Formula) -> Result<Str, NoMemory> {

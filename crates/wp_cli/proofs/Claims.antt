@@ -12,9 +12,8 @@ use Rattle.c_lexer.specs.Tokens.{most_bytes}
 use Rattle.qed_terms.specs.declared.verdict.Verdict.{Verdict}
 use Rattle.qed_terms.specs.declared.verdict.Verdict.TheVariants as verdict
 use Rattle.qed_terms.specs.Tree.{Tree, true_tree}
-use Rattle.qed_terms.specs.Meaning.{is_so}
-use Rattle.qed_terms.specs.Setting.{Setting, world_of, Valid}
-use Rattle.qed_simplify.proofs.Laws.{normal-keeps}
+use Rattle.qed_terms.specs.Setting.{Valid}
+use Rattle.qed_simplify.proofs.Laws.{proved_valid}
 use Rattle.core_prog.specs.Names.{all_differ, is_well_named, is_well_named_program}
 use Rattle.core_prog.specs.Tree.{Program, Function}
 use Rattle.c_front.specs.Text.{Spells}
@@ -35,10 +34,6 @@ all_at p (y ∷ xs) zero x a m = let same : y ≡ x = cc in sym (ap p same) ∙ 
 all_at p (y ∷ xs) (suc i) x a m = all_at p xs i x (and_parts (p y) (list_all p xs) a).1 m
 
 -- ---- each claim
-
--- a formula whose normal form is `true` is valid
-proved_valid : (s : Setting) (f : Tree) → IsProved f → Valid s f
-proved_valid s f n env bounded = ap is_so (sym (normal-keeps f true_tree n (world_of s) env))
 
 -- a goal that is called proved has that normal form
 called_proved : (v : Verdict) (f : Tree) → is_proved v ≡ true → IsVerdict v f → IsProved f

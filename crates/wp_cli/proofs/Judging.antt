@@ -11,8 +11,11 @@ use Rattle.wp_calculus.specs.Goals.{Goal}
 use Rattle.wp_cli.specs.Report.{Judged}
 use Rattle.wp_cli.specs.Answers.{IsJudged, EachIsSo, AreJudged}
 
-pub normal_other : (goal formula normal : Tree) → formula ≡ goal → Normal step formula normal → (normal ≡ true_tree → ⊥) → Normal step goal true_tree → ⊥
-normal_other goal formula normal same n not proved = not (one_normal step n (subst (λ t. Normal step t true_tree) (sym same) proved))
+pub normal_true : (goal formula normal : Tree) → formula ≡ goal → Normal (step 64) formula normal → normal ≡ true_tree → Normal (step 64) goal true_tree
+normal_true goal formula normal same n is = subst (λ t. Normal (step 64) t true_tree) same (subst (Normal (step 64) formula) is n)
+
+pub normal_other : (goal formula normal : Tree) → formula ≡ goal → Normal (step 64) formula normal → (normal ≡ true_tree → ⊥) → Normal (step 64) goal true_tree → ⊥
+normal_other goal formula normal same n not proved = not (one_normal (step 64) n (subst (λ t. Normal (step 64) t true_tree) (sym same) proved))
 
 -- ---- items at the same place
 

@@ -21,9 +21,9 @@ use Rattle.wp_cli.specs.Report.{Judged, Reported, all_proved, report_text, refus
 
 -- ---- verdicts
 
--- the normal form of the formula is `true`
+-- the normal form of the formula is `true`; `long` has 64 bits, as in the setting of goals
 abbrev pub IsProved : Tree → Type 0
-IsProved formula = Normal step formula true_tree
+IsProved formula = Normal (step 64) formula true_tree
 
 -- A goal is called proved exactly where it is, and else unknown for want of more; none is given up for its size or its branches.
 abbrev pub IsVerdict : Verdict → Tree → Type 0

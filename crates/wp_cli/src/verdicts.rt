@@ -16,12 +16,12 @@ use std::alloc::Global;
 use wp_base::{List, NoMemory, Str};
 use wp_calculus::{NamedGoal, goals};
 
-// Proved exactly where the normal form of the goal is `true`.
+// Proved exactly where the normal form of the goal is `true`. In the setting of goals, which don't speak of it, `long` has 64 bits.
 fn verdict_of(alloc: Global, goal: &Goal) -> Result<Verdict, NoMemory>
     ensures { IfOk result (λ verdict. IsVerdict verdict (goal_tree goal.now)) }
 {
     let formula = goal.formula(alloc)?;
-    let normal = normal(alloc, &formula)?;
+    let normal = normal(alloc, &formula, 64)?;
     if normal.is_true() {
         return Ok(Verdict::Proved);
     }

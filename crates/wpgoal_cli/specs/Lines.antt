@@ -34,9 +34,9 @@ pub record IsTextOf (text : List ℕ) (formula : Tree) : Type 0 where
 abbrev pub IsNoFormula : List ℕ → Type 0
 IsNoFormula text = (formula : Tree) → is_goal [] formula ≡ true → goal_held [] formula ≡ true → tree_text formula ≡ text → ⊥
 
--- what is answered to the text of a formula: that of its normal form, or its own
+-- what is answered to the text of a formula: that of its normal form, where `long` has 64 bits, or its own
 abbrev pub Shows : (normal : Bool) → (formula shown : Tree) → Type 0
-Shows true formula shown = Normal step formula shown
+Shows true formula shown = Normal (step 64) formula shown
 Shows false formula shown = shown ≡ formula
 
 pub record AnswersLine (normal : Bool) (line answer : List ℕ) : Type 0 where

@@ -33,12 +33,12 @@ fn first_line(text: &[u8]) -> (&[u8], &[u8])
     (text, &[])
 }
 
-// The formula, or its normal form.
+// The formula, or its normal form. The words don't say how wide `long` is: it has 64 bits.
 fn shown(alloc: Global, is_normal: bool, formula: Formula) -> Result<Formula, NoMemory>
     ensures { IfOk result (λ shown. Shows is_normal (formula_tree formula) (formula_tree shown)) }
 {
     if is_normal {
-        return normal(alloc, &formula);
+        return normal(alloc, &formula, 64);
     }
     Ok(formula)
 }

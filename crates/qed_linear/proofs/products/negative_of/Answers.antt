@@ -1,6 +1,6 @@
 use Rattle.std.proofs.Common.{Some, pos, ◌-ℤ◌, ◌∙◌, ap, arith}
 use Rattle.std.specs.Int.{w128}
-use Rattle.std.proofs.lemmas.Int.{to_z_pos, to_z-of_z, ints}
+use Rattle.std.proofs.lemmas.Int.{to_z_pos, to_z-of_z}
 use Rattle.qed_linear.proofs.Factors.{small_negative, least_negative, large_negative, negative_fits}
 use Rattle.qed_linear.proofs.products.negative_of.Goals as goal
 

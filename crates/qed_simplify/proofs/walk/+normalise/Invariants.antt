@@ -10,28 +10,28 @@ use Rattle.qed_simplify.proofs.walk.+normalise.Given as goal
 
 -- twice the work that the normal form is, and one more where that of the kids or of what goes again is at hand
 abbrev pub decreases-normalise_term : goal.decreases-normalise_term
-decreases-normalise_term l = 2 * work_on (term_tree l.term.now)
+decreases-normalise_term l = 2 * (work_on l.long_bits) (term_tree l.term.now)
 
 abbrev pub decreases-normalise : goal.decreases-normalise
-decreases-normalise l = 2 * work_on (formula_tree l.formula.now)
+decreases-normalise l = 2 * (work_on l.long_bits) (formula_tree l.formula.now)
 
 abbrev pub decreases-normalise_terms : goal.decreases-normalise_terms
-decreases-normalise_terms l = 2 * works_on (trees_of (map term_tree l.terms.now)) + 1
+decreases-normalise_terms l = 2 * (works_on l.long_bits) (trees_of (map term_tree l.terms.now)) + 1
 
 abbrev pub decreases-normalise_all : goal.decreases-normalise_all
-decreases-normalise_all l = 2 * works_on (trees_of (map formula_tree l.formulas.now)) + 1
+decreases-normalise_all l = 2 * (works_on l.long_bits) (trees_of (map formula_tree l.formulas.now)) + 1
 
 abbrev pub decreases-normalise_both : goal.decreases-normalise_both
-decreases-normalise_both l = 2 * (work_on (formula_tree l.left.now) + work_on (formula_tree l.right.now)) + 1
+decreases-normalise_both l = 2 * ((work_on l.long_bits) (formula_tree l.left.now) + (work_on l.long_bits) (formula_tree l.right.now)) + 1
 
 abbrev pub decreases-normalise_range : goal.decreases-normalise_range
-decreases-normalise_range l = 2 * (work_on (term_tree l.low.now) + work_on (term_tree l.high.now) + work_on (formula_tree l.body.now)) + 1
+decreases-normalise_range l = 2 * ((work_on l.long_bits) (term_tree l.low.now) + (work_on l.long_bits) (term_tree l.high.now) + (work_on l.long_bits) (formula_tree l.body.now)) + 1
 
 abbrev pub decreases-settle : goal.decreases-settle
-decreases-settle l = pass_work (view_pass l.pass)
+decreases-settle l = (pass_work l.long_bits) (view_pass l.pass)
 
 abbrev pub invariant-normalise_terms-loop-term : goal.invariant-normalise_terms-loop-term
-invariant-normalise_terms-loop-term l = Normals step (trees_of (map term_tree (take l.term-index l.terms))) (trees_of (map term_tree l.normals))
+invariant-normalise_terms-loop-term l = Normals (step l.long_bits) (trees_of (map term_tree (take l.term-index l.terms))) (trees_of (map term_tree l.normals))
 
 abbrev pub invariant-normalise_all-loop-formula : goal.invariant-normalise_all-loop-formula
-invariant-normalise_all-loop-formula l = Normals step (trees_of (map formula_tree (take l.formula-index l.formulas))) (trees_of (map formula_tree l.normals))
+invariant-normalise_all-loop-formula l = Normals (step l.long_bits) (trees_of (map formula_tree (take l.formula-index l.formulas))) (trees_of (map formula_tree l.normals))

@@ -1,0 +1,3 @@
+pub mod Binders
+pub mod Ranges
+pub mod Preds

@@ -62,6 +62,7 @@ pub struct Reading {
 }
 
 /// What stands around an annotation.
+#[derive(Clone, Copy)]
 pub struct Around<'a> {
     pub model: Machdep,
     /// How many cells each struct of the file has.

@@ -5,7 +5,7 @@ ghost use Rattle.std.specs.Str.{bytes_eq};
 ghost use Rattle.c_syntax.specs.View.{view_term, view_var};
 ghost use Rattle.acsl_guards.specs.Mentions as spec;
 
-use c_syntax::{Term, TermNode, VarDecl};
+use c_syntax::{Term, TermLeaf, TermShape, VarDecl};
 use wp_base::Str;
 
 pub(crate) fn same(left: &Str, right: &Str) -> bool
@@ -19,26 +19,16 @@ pub(crate) fn same(left: &Str, right: &Str) -> bool
 pub(crate) fn name_of(term: &Term) -> Option<&Str>
     ensures { option_copied result ≡ spec.name_of (view_term term.now) }
 {
-    match &term.node {
-        TermNode::Name(name) => Some(name),
-        TermNode::Number(_) => None,
-        TermNode::Char(_) => None,
-        TermNode::Unary(_, _) => None,
-        TermNode::Binary(_, _, _) => None,
-        TermNode::Cond(_, _, _) => None,
-        TermNode::Call(_, _) => None,
-        TermNode::Index(_, _) => None,
-        TermNode::Field {
-            of: _,
-            name: _,
-            arrow: _,
-        } => None,
-        TermNode::Cast(_, _) => None,
-        TermNode::Result => None,
-        TermNode::Old(_) => None,
-        TermNode::At(_, _) => None,
-        TermNode::Null => None,
-        TermNode::Range(_, _) => None,
+    match term.node.look() {
+        TermShape::Leaf(TermLeaf::Name(name)) => Some(name),
+        TermShape::Leaf(TermLeaf::Number(_)) => None,
+        TermShape::Leaf(TermLeaf::Char(_)) => None,
+        TermShape::Leaf(TermLeaf::Result) => None,
+        TermShape::Leaf(TermLeaf::Null) => None,
+        TermShape::One(_, _) => None,
+        TermShape::Two(_, _, _) => None,
+        TermShape::Cond(_, _, _) => None,
+        TermShape::Call(_, _) => None,
     }
 }
 

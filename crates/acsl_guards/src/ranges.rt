@@ -171,9 +171,9 @@ fn first_with(name: &Str, candidates: &[Candidate<'_>]) -> Option<Guard>
     None
 }
 
-/// Whether a type is `integer`.
+/// Whether a type is spelled `integer`.
 #[tactic(auto, using(c_syntax::proofs::Equations::expr_laws))]
-pub(crate) fn is_integer(ty: &CType) -> bool
+pub fn is_integer(ty: &CType) -> bool
     ensures { result ≡ spec.is_integer (view_ctype ty.now) }
 {
     match ty {

@@ -9,7 +9,9 @@ use crate::names::is_name;
 use crate::preds::calls_in_pred;
 use crate::ranges::is_integer;
 use crate::terms::calls_in_term;
-use c_syntax::{BinOp, LogicBody, LogicDecl, Term, TermNode, Token, TokenKind, VarDecl};
+use c_syntax::{
+    BinOp, LogicBody, LogicDecl, Term, TermLeaf, TermShape, TermTwo, Token, TokenKind, VarDecl,
+};
 use std::alloc::Global;
 use wp_base::{List, NoMemory, Str};
 
@@ -48,26 +50,16 @@ fn value_of(token: &Token) -> Option<i128>
 fn number_of(term: &Term) -> Option<i128>
     ensures { result ≡ spec.number_of (view_term term.now) }
 {
-    match &term.node {
-        TermNode::Number(token) => value_of(token),
-        TermNode::Char(_) => None,
-        TermNode::Name(_) => None,
-        TermNode::Unary(_, _) => None,
-        TermNode::Binary(_, _, _) => None,
-        TermNode::Cond(_, _, _) => None,
-        TermNode::Call(_, _) => None,
-        TermNode::Index(_, _) => None,
-        TermNode::Field {
-            of: _,
-            name: _,
-            arrow: _,
-        } => None,
-        TermNode::Cast(_, _) => None,
-        TermNode::Result => None,
-        TermNode::Old(_) => None,
-        TermNode::At(_, _) => None,
-        TermNode::Null => None,
-        TermNode::Range(_, _) => None,
+    match term.node.look() {
+        TermShape::Leaf(TermLeaf::Number(token)) => value_of(token),
+        TermShape::Leaf(TermLeaf::Char(_)) => None,
+        TermShape::Leaf(TermLeaf::Name(_)) => None,
+        TermShape::Leaf(TermLeaf::Result) => None,
+        TermShape::Leaf(TermLeaf::Null) => None,
+        TermShape::One(_, _) => None,
+        TermShape::Two(_, _, _) => None,
+        TermShape::Cond(_, _, _) => None,
+        TermShape::Call(_, _) => None,
     }
 }
 
@@ -76,26 +68,14 @@ fn number_of(term: &Term) -> Option<i128>
 fn binary_of(term: &Term) -> Option<(BinOp, (&Term, &Term))>
     ensures { option_map binary_seen result ≡ spec.binary_of (view_term term.now) }
 {
-    match &term.node {
-        TermNode::Binary(op, left, right) => Some((*op, (left.get(), right.get()))),
-        TermNode::Number(_) => None,
-        TermNode::Char(_) => None,
-        TermNode::Name(_) => None,
-        TermNode::Unary(_, _) => None,
-        TermNode::Cond(_, _, _) => None,
-        TermNode::Call(_, _) => None,
-        TermNode::Index(_, _) => None,
-        TermNode::Field {
-            of: _,
-            name: _,
-            arrow: _,
-        } => None,
-        TermNode::Cast(_, _) => None,
-        TermNode::Result => None,
-        TermNode::Old(_) => None,
-        TermNode::At(_, _) => None,
-        TermNode::Null => None,
-        TermNode::Range(_, _) => None,
+    match term.node.look() {
+        TermShape::Two(TermTwo::Binary(op), left, right) => Some((op, (left.get(), right.get()))),
+        TermShape::Two(TermTwo::Index, _, _) => None,
+        TermShape::Two(TermTwo::Range, _, _) => None,
+        TermShape::Leaf(_) => None,
+        TermShape::One(_, _) => None,
+        TermShape::Cond(_, _, _) => None,
+        TermShape::Call(_, _) => None,
     }
 }
 
@@ -104,26 +84,12 @@ fn binary_of(term: &Term) -> Option<(BinOp, (&Term, &Term))>
 fn test_of(term: &Term) -> Option<&Term>
     ensures { option_map view_term (option_copied result) ≡ spec.test_of (view_term term.now) }
 {
-    match &term.node {
-        TermNode::Cond(test, _, _) => Some(test.get()),
-        TermNode::Number(_) => None,
-        TermNode::Char(_) => None,
-        TermNode::Name(_) => None,
-        TermNode::Unary(_, _) => None,
-        TermNode::Binary(_, _, _) => None,
-        TermNode::Call(_, _) => None,
-        TermNode::Index(_, _) => None,
-        TermNode::Field {
-            of: _,
-            name: _,
-            arrow: _,
-        } => None,
-        TermNode::Cast(_, _) => None,
-        TermNode::Result => None,
-        TermNode::Old(_) => None,
-        TermNode::At(_, _) => None,
-        TermNode::Null => None,
-        TermNode::Range(_, _) => None,
+    match term.node.look() {
+        TermShape::Cond(test, _, _) => Some(test.get()),
+        TermShape::Leaf(_) => None,
+        TermShape::One(_, _) => None,
+        TermShape::Two(_, _, _) => None,
+        TermShape::Call(_, _) => None,
     }
 }
 

@@ -7,7 +7,7 @@ ghost use Rattle.acsl_guards.specs.Parts.{term_parts, terms_in};
 
 use crate::gather::{put, put_each, put_three, put_two};
 use crate::names::{is_one_of, same};
-use c_syntax::{Term, TermNode, TermShape, VarDecl};
+use c_syntax::{Term, TermShape, VarDecl};
 use std::alloc::Global;
 use wp_base::{List, NoMemory, Str};
 
@@ -51,26 +51,12 @@ pub(crate) fn holds_one(alloc: Global, binders: &[VarDecl], term: &Term) -> Resu
 fn is_call(name: &Str, term: &Term) -> bool
     ensures { result ≡ spec.is_call name.now (view_term term.now) }
 {
-    match &term.node {
-        TermNode::Call(called, _) => same(name, called),
-        TermNode::Number(_) => false,
-        TermNode::Char(_) => false,
-        TermNode::Name(_) => false,
-        TermNode::Unary(_, _) => false,
-        TermNode::Binary(_, _, _) => false,
-        TermNode::Cond(_, _, _) => false,
-        TermNode::Index(_, _) => false,
-        TermNode::Field {
-            of: _,
-            name: _,
-            arrow: _,
-        } => false,
-        TermNode::Cast(_, _) => false,
-        TermNode::Result => false,
-        TermNode::Old(_) => false,
-        TermNode::At(_, _) => false,
-        TermNode::Null => false,
-        TermNode::Range(_, _) => false,
+    match term.node.look() {
+        TermShape::Call(called, _) => same(name, called),
+        TermShape::Leaf(_) => false,
+        TermShape::One(_, _) => false,
+        TermShape::Two(_, _, _) => false,
+        TermShape::Cond(_, _, _) => false,
     }
 }
 

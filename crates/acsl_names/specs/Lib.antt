@@ -1,4 +1,5 @@
 pub mod Names
+pub mod Sites
 pub mod Labels
 pub mod Counting
 pub mod Weights

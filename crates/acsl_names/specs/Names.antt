@@ -1,6 +1,6 @@
 -- What stands around an annotation, and what a name is there (ACSL 2.2, 2.6). From within: binders and parameters of a definition, the locals in
 -- scope, what the file declares before the annotation, and the definitions before it.
-use Rattle.std.specs.Prelude.{ℕ, Bool, true, false, List, map, Option, Some, None, Ok}
+use Rattle.std.specs.Prelude.{ℕ, List, map, Option, Some, None, Ok}
 use Rattle.std.specs.Option.{option_copied, option_map}
 use Rattle.c_kinds.specs.declared.models.Machdep.{Machdep}
 use Rattle.c_syntax.specs.Expr as e
@@ -58,6 +58,14 @@ view_around c = record {
   down = option_map (map view_var) (option_copied c.down);
 }
 
+-- an annotation at this site
+abbrev pub at_site : Site → Around → Around
+at_site s c = record c { site = s }
+
+-- the body of a logic function where it may call itself, with these parameters
+abbrev pub going_down : List e.VarDecl → Around → Around
+going_down ps c = record c { down = Some ps }
+
 -- ---- names
 
 abbrev pub of_symbol : Symbol → Meaning
@@ -90,14 +98,6 @@ definition_of ds x = as_definition (meaning_of ds.names x)
 unfoldable pub meaning_at : Around → Bound → List ℕ → Meaning
 meaning_at c b x =
     as_bound (meaning_in b.scopes x) (as_local (meaning_in c.blocks x) (as_symbol (meaning_among c.names c.file.names x) (definition_of c.definitions x)))
-
--- whether the name is one of C or a binder there, where nothing else has it
-abbrev pub is_declared_as : Meaning → Bool
-is_declared_as meaning.Nothing = false
-is_declared_as _ = true
-
-abbrev pub is_declared : Around → Bound → List ℕ → Bool
-is_declared c b x = is_declared_as (meaning_at c b x)
 
 -- ---- types
 

@@ -26,23 +26,22 @@ abbrev pub count_of : t.Terms → ℕ
 count_of t.stop = 0
 count_of (t.more a rest) = suc (count_of rest)
 
--- a definition of the wanted sort, with as many parameters, that is expanded
-abbrev pub is_expanded : (is_term : Bool) → (count : ℕ) → Definition → Bool
-is_expanded true n d = is_some d.result && not d.is_recursive && length d.params == n
-is_expanded false n d = not (is_some d.result) && length d.params == n
+-- a logic function with as many parameters that doesn't call itself
+abbrev pub is_expanded : (count : ℕ) → Definition → Bool
+is_expanded n d = is_some d.result && not d.is_recursive && length d.params == n
 
 abbrev pub expanded_if : Bool → Definition → Option Definition
 expanded_if true d = Some d
 expanded_if false d = None
 
-abbrev pub expanded_at : (is_term : Bool) → (count : ℕ) → Option Definition → Option Definition
-expanded_at is_term n None = None
-expanded_at is_term n (Some d) = expanded_if (is_expanded is_term n d) d
+abbrev pub expanded_at : (count : ℕ) → Option Definition → Option Definition
+expanded_at n None = None
+expanded_at n (Some d) = expanded_if (is_expanded n d) d
 
--- what a call of a name with so many arguments is expanded by
-abbrev pub expanded_by : Definitions → (is_term : Bool) → (count : ℕ) → Meaning → Option Definition
-expanded_by ds is_term n (meaning.Definition d) = expanded_at is_term n (slice_get ds.items d)
-expanded_by ds is_term n _ = None
+-- what a term that calls a name with so many arguments is expanded by
+abbrev pub expanded_by : Definitions → (count : ℕ) → Meaning → Option Definition
+expanded_by ds n (meaning.Definition d) = expanded_at n (slice_get ds.items d)
+expanded_by ds n _ = None
 
 abbrev pub as_leaf : (n : ℕ) → Option Definition → Weight → Weight
 as_leaf n (Some d) w = with_own (times n d.weight.own) w
@@ -51,7 +50,7 @@ as_leaf n None w = with_own n w
 -- a name, so often
 abbrev pub with_meaning : Definitions → (n : ℕ) → Meaning → Weight → Weight
 with_meaning ds n (meaning.Bound i) w = with_name n i w
-with_meaning ds n m w = as_leaf n (expanded_by ds true 0 m) w
+with_meaning ds n m w = as_leaf n (expanded_by ds 0 m) w
 
 -- a term in which there is no other one
 abbrev pub with_leaf : Around → Bound → (n : ℕ) → TermLeaf → Weight → Weight
@@ -80,7 +79,7 @@ abbrev mutual
   with_term c b n (t.range line a a') w = with_term c b n a' (with_term c b n a (with_own n w))
   with_term c b n (t.cond line a a' a'') w = with_term c b n a'' (with_term c b n a' (with_term c b n a (with_own n w)))
   with_term c b n (t.call line f args) w =
-      with_call n (expanded_by c.definitions true (count_of args) (definition_of c.definitions f)) (λ ks v. with_each c b n ks args v) (λ v. with_all c b n args v) w
+      with_call n (expanded_by c.definitions (count_of args) (definition_of c.definitions f)) (λ ks v. with_each c b n ks args v) (λ v. with_all c b n args v) w
 
   -- each argument as often as its parameter stands
   pub with_each : Around → Bound → (n : ℕ) → List ℕ → t.Terms → Weight → Weight

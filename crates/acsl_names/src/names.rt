@@ -1,7 +1,7 @@
 // What stands around an annotation, and what a name is there (ACSL 2.2, 2.6).
-ghost use Rattle.std.specs.Prelude.{◌≡◌};
+ghost use Rattle.std.specs.Prelude.{◌≡◌, map};
 ghost use Rattle.c_answers.specs.Answers.{Gives};
-ghost use Rattle.c_syntax.specs.View.{view_ctype};
+ghost use Rattle.c_syntax.specs.View.{view_ctype, view_var};
 ghost use Rattle.name_table.specs.Names.{meaning_among};
 ghost use Rattle.acsl_names.specs.Names as spec;
 
@@ -23,7 +23,7 @@ pub struct Definition {
     pub result: Option<TermType>,
     /// How many nodes a call of it stands for.
     pub weight: Weight,
-    /// Whether it calls itself; then a call of it isn't expanded.
+    /// Whether it calls itself, or may do so since its body is being read; then a call of it isn't expanded.
     pub is_recursive: bool,
 }
 
@@ -123,7 +123,24 @@ impl Definitions {
     }
 }
 
-impl Around<'_> {
+impl<'a> Around<'a> {
+    /// The same for an annotation at this site.
+    pub fn at_site(&self, site: Site) -> Around<'a>
+        ensures { spec.view_around result ≡ spec.at_site site (spec.view_around self.now) }
+    {
+        Around { site, ..*self }
+    }
+
+    /// The same for the body of a logic function where it may call itself, with these parameters.
+    pub fn going_down(&self, params: &'a List<VarDecl>) -> Around<'a>
+        ensures { spec.view_around result ≡ spec.going_down (map view_var params.now) (spec.view_around self.now) }
+    {
+        Around {
+            down: Some(params),
+            ..*self
+        }
+    }
+
     /// What a name is.
     #[tactic(auto, unfolding(crate::specs::Names::meaning_at))]
     pub fn find(&self, bound: &Bound, name: &Str) -> Meaning

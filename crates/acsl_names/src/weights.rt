@@ -12,26 +12,22 @@ use std::alloc::Global;
 use wp_base::Line;
 
 impl Definition {
-    fn is_expanded(&self, is_term: bool, count: usize) -> bool
-        ensures { result ≡ spec.is_expanded is_term count self.now }
+    fn is_expanded(&self, count: usize) -> bool
+        ensures { result ≡ spec.is_expanded count self.now }
     {
-        if is_term {
-            self.result.is_some() && !self.is_recursive && self.params.len() == count
-        } else {
-            self.result.is_none() && self.params.len() == count
-        }
+        self.result.is_some() && !self.is_recursive && self.params.len() == count
     }
 }
 
 impl Definitions {
-    /// What a call of a name with so many arguments is expanded by, as a term or as a predicate; none where it isn't expanded.
-    pub fn expanded_by(&self, is_term: bool, count: usize, meaning: Meaning) -> Option<&Definition>
-        ensures { option_copied result ≡ spec.expanded_by self.now is_term count meaning }
+    /// What a term that calls a name with so many arguments is expanded by; none where it isn't expanded.
+    pub fn expanded_by(&self, count: usize, meaning: Meaning) -> Option<&Definition>
+        ensures { option_copied result ≡ spec.expanded_by self.now count meaning }
     {
         match meaning {
             Meaning::Definition(number) => {
                 let definition = self.items.get(number as usize)?;
-                if definition.is_expanded(is_term, count) {
+                if definition.is_expanded(count) {
                     Some(definition)
                 } else {
                     None
@@ -56,7 +52,7 @@ impl Around<'_> {
             weight.add_name(alloc, number, name);
             return;
         }
-        match self.definitions.expanded_by(true, 0, meaning) {
+        match self.definitions.expanded_by(0, meaning) {
             Some(definition) => weight.add(times(number, definition.weight.own)),
             None => weight.add(number),
         }
@@ -105,7 +101,7 @@ impl Around<'_> {
             }
             TermShape::Call(name, args) => {
                 let meaning = self.definitions.find(name);
-                let definition = self.definitions.expanded_by(true, args.len(), meaning);
+                let definition = self.definitions.expanded_by(args.len(), meaning);
                 self.add_call(alloc, bound, number, definition, args.as_slice(), weight);
             }
         }

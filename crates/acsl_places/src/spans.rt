@@ -3,7 +3,7 @@ ghost use Rattle.std.specs.Prelude.{◌≡◌, option_map};
 ghost use Rattle.acsl_places.specs.Spans as spec;
 ghost use Rattle.c_syntax.specs.View.{view_term};
 
-use c_syntax::{BinOp, Term, TermNode, UnOp};
+use c_syntax::{BinOp, Term, TermOne, TermShape, TermTwo, UnOp};
 use wp_base::Line;
 
 /// The ends of a range, and the line of its `..`.
@@ -26,30 +26,18 @@ pub(crate) struct Ranged<'a> {
 fn span_of(term: &Term) -> Option<Span<'_>>
     ensures { option_map spec.view_span result ≡ spec.span_of (view_term term.now) }
 {
-    match &term.node {
-        TermNode::Range(low, high) => Some(Span {
+    match term.node.look() {
+        TermShape::Two(TermTwo::Range, low, high) => Some(Span {
             line: term.line,
             low: low.get(),
             high: high.get(),
         }),
-        TermNode::Number(_) => None,
-        TermNode::Char(_) => None,
-        TermNode::Name(_) => None,
-        TermNode::Unary(_, _) => None,
-        TermNode::Binary(_, _, _) => None,
-        TermNode::Cond(_, _, _) => None,
-        TermNode::Call(_, _) => None,
-        TermNode::Index(_, _) => None,
-        TermNode::Field {
-            of: _,
-            name: _,
-            arrow: _,
-        } => None,
-        TermNode::Cast(_, _) => None,
-        TermNode::Result => None,
-        TermNode::Old(_) => None,
-        TermNode::At(_, _) => None,
-        TermNode::Null => None,
+        TermShape::Two(TermTwo::Binary(_), _, _) => None,
+        TermShape::Two(TermTwo::Index, _, _) => None,
+        TermShape::Leaf(_) => None,
+        TermShape::One(_, _) => None,
+        TermShape::Cond(_, _, _) => None,
+        TermShape::Call(_, _) => None,
     }
 }
 
@@ -67,51 +55,24 @@ fn range_behind<'a>(line: Line, base: &'a Term, at: &'a Term) -> Option<Ranged<'
 pub(crate) fn indexed_range(term: &Term) -> Option<Ranged<'_>>
     ensures { option_map spec.view_ranged result ≡ spec.indexed_range (view_term term.now) }
 {
-    match &term.node {
-        TermNode::Index(base, at) => range_behind(term.line, base.get(), at.get()),
-        TermNode::Number(_) => None,
-        TermNode::Char(_) => None,
-        TermNode::Name(_) => None,
-        TermNode::Unary(_, _) => None,
-        TermNode::Binary(_, _, _) => None,
-        TermNode::Cond(_, _, _) => None,
-        TermNode::Call(_, _) => None,
-        TermNode::Field {
-            of: _,
-            name: _,
-            arrow: _,
-        } => None,
-        TermNode::Cast(_, _) => None,
-        TermNode::Result => None,
-        TermNode::Old(_) => None,
-        TermNode::At(_, _) => None,
-        TermNode::Null => None,
-        TermNode::Range(_, _) => None,
+    match term.node.look() {
+        TermShape::Two(TermTwo::Index, base, at) => range_behind(term.line, base.get(), at.get()),
+        TermShape::Two(TermTwo::Binary(_), _, _) => None,
+        TermShape::Two(TermTwo::Range, _, _) => None,
+        TermShape::Leaf(_) => None,
+        TermShape::One(_, _) => None,
+        TermShape::Cond(_, _, _) => None,
+        TermShape::Call(_, _) => None,
     }
 }
 
 fn added<'a>(line: Line, op: BinOp, base: &'a Term, at: &'a Term) -> Option<Ranged<'a>>
     ensures { option_map spec.view_ranged result ≡ spec.if_plus op (option_map (spec.ranged line (view_term base.now)) (spec.span_of (view_term at.now))) }
 {
-    match op {
-        BinOp::Add => range_behind(line, base, at),
-        BinOp::Mul
-        | BinOp::Div
-        | BinOp::Rem
-        | BinOp::Sub
-        | BinOp::Shl
-        | BinOp::Shr
-        | BinOp::Less
-        | BinOp::AtMost
-        | BinOp::Greater
-        | BinOp::AtLeast
-        | BinOp::Equal
-        | BinOp::NotEqual
-        | BinOp::BitAnd
-        | BinOp::BitXor
-        | BinOp::BitOr
-        | BinOp::And
-        | BinOp::Or => None,
+    if matches!(op, BinOp::Add) {
+        range_behind(line, base, at)
+    } else {
+        None
     }
 }
 
@@ -120,35 +81,24 @@ fn added<'a>(line: Line, op: BinOp, base: &'a Term, at: &'a Term) -> Option<Rang
 pub(crate) fn added_range(term: &Term) -> Option<Ranged<'_>>
     ensures { option_map spec.view_ranged result ≡ spec.added_range (view_term term.now) }
 {
-    match &term.node {
-        TermNode::Binary(op, base, at) => added(term.line, *op, base.get(), at.get()),
-        TermNode::Number(_) => None,
-        TermNode::Char(_) => None,
-        TermNode::Name(_) => None,
-        TermNode::Unary(_, _) => None,
-        TermNode::Cond(_, _, _) => None,
-        TermNode::Call(_, _) => None,
-        TermNode::Index(_, _) => None,
-        TermNode::Field {
-            of: _,
-            name: _,
-            arrow: _,
-        } => None,
-        TermNode::Cast(_, _) => None,
-        TermNode::Result => None,
-        TermNode::Old(_) => None,
-        TermNode::At(_, _) => None,
-        TermNode::Null => None,
-        TermNode::Range(_, _) => None,
+    match term.node.look() {
+        TermShape::Two(TermTwo::Binary(op), base, at) => added(term.line, op, base.get(), at.get()),
+        TermShape::Two(TermTwo::Index, _, _) => None,
+        TermShape::Two(TermTwo::Range, _, _) => None,
+        TermShape::Leaf(_) => None,
+        TermShape::One(_, _) => None,
+        TermShape::Cond(_, _, _) => None,
+        TermShape::Call(_, _) => None,
     }
 }
 
 fn starred(op: UnOp, of: &Term) -> Option<Ranged<'_>>
     ensures { option_map spec.view_ranged result ≡ spec.if_star op (spec.added_range (view_term of.now)) }
 {
-    match op {
-        UnOp::Deref => added_range(of),
-        UnOp::AddressOf | UnOp::Plus | UnOp::Minus | UnOp::BitNot | UnOp::Not => None,
+    if matches!(op, UnOp::Deref) {
+        added_range(of)
+    } else {
+        None
     }
 }
 
@@ -157,25 +107,15 @@ fn starred(op: UnOp, of: &Term) -> Option<Ranged<'_>>
 pub(crate) fn starred_range(term: &Term) -> Option<Ranged<'_>>
     ensures { option_map spec.view_ranged result ≡ spec.starred_range (view_term term.now) }
 {
-    match &term.node {
-        TermNode::Unary(op, of) => starred(*op, of.get()),
-        TermNode::Number(_) => None,
-        TermNode::Char(_) => None,
-        TermNode::Name(_) => None,
-        TermNode::Binary(_, _, _) => None,
-        TermNode::Cond(_, _, _) => None,
-        TermNode::Call(_, _) => None,
-        TermNode::Index(_, _) => None,
-        TermNode::Field {
-            of: _,
-            name: _,
-            arrow: _,
-        } => None,
-        TermNode::Cast(_, _) => None,
-        TermNode::Result => None,
-        TermNode::Old(_) => None,
-        TermNode::At(_, _) => None,
-        TermNode::Null => None,
-        TermNode::Range(_, _) => None,
+    match term.node.look() {
+        TermShape::One(TermOne::Unary(op), of) => starred(op, of.get()),
+        TermShape::One(TermOne::Field { name: _, arrow: _ }, _) => None,
+        TermShape::One(TermOne::Cast(_), _) => None,
+        TermShape::One(TermOne::Old, _) => None,
+        TermShape::One(TermOne::At(_), _) => None,
+        TermShape::Leaf(_) => None,
+        TermShape::Two(_, _, _) => None,
+        TermShape::Cond(_, _, _) => None,
+        TermShape::Call(_, _) => None,
     }
 }

@@ -1,19 +1,18 @@
 // The names that a predicate binds (ACSL 2.2.2).
 ghost use Rattle.std.specs.Prelude.{◌≡◌, OnOk, map, take};
-ghost use Rattle.acsl_guards.specs.Guarding.{is_integer as integer_is_spelled};
 ghost use Rattle.acsl_names.specs.Names.{view_around};
 ghost use Rattle.acsl_preds.specs.Binders as spec;
 ghost use Rattle.c_answers.specs.Answers.{Gives};
 ghost use Rattle.c_syntax.specs.View.{view_ctype, view_var};
 ghost use Rattle.name_table.specs.Nesting.{around as scopes_around};
 
-use acsl_guards::Guard;
+use acsl_guards::{Guard, is_integer};
 use acsl_names::{Around, Bound};
 use acsl_terms::misshapen;
 use acsl_trees::TermType;
 use c_answers::refused;
 use c_scopes::Resolved;
-use c_syntax::{CType, TypeLeaf, TypeShape, VarDecl};
+use c_syntax::{CType, VarDecl};
 use std::alloc::Global;
 use std::mem::replace;
 use wp_base::{Kind, Line, List, NoMemory, Rule, Stop, Str};
@@ -92,24 +91,6 @@ fn over_named(alloc: Global, around: &Around<'_>, line: Line, ty: &CType) -> Res
 {
     let named = around.type_named(alloc, line, ty)?;
     over_type(line, named)
-}
-
-// Whether a type is spelled `integer`.
-#[tactic(auto, using(c_syntax::proofs::Equations::expr_laws))]
-fn is_integer(ty: &CType) -> bool
-    ensures { result ≡ integer_is_spelled (view_ctype ty.now) }
-{
-    match ty.look() {
-        TypeShape::Leaf(TypeLeaf::Integer) => true,
-        TypeShape::Leaf(TypeLeaf::Void) => false,
-        TypeShape::Leaf(TypeLeaf::Kind(_)) => false,
-        TypeShape::Leaf(TypeLeaf::Struct(_)) => false,
-        TypeShape::Leaf(TypeLeaf::Enum(_)) => false,
-        TypeShape::Leaf(TypeLeaf::Named(_)) => false,
-        TypeShape::Pointer(_) => false,
-        TypeShape::Array(_, _) => false,
-        TypeShape::Const(_) => false,
-    }
 }
 
 fn over_of(

@@ -33,7 +33,7 @@ counted_call k true false = called.Expanded k
 -- a predicate is no term, and a logic function no predicate
 abbrev pub sorted_call : (is_term : Bool) → (number count : ℕ) → Definition → Called
 sorted_call true k n d = if is_some d.result then counted_call k (length d.params == n) d.is_recursive else called.Wrong rule.Shape
-sorted_call false k n d = if is_some d.result then called.Wrong rule.Shape else counted_call k (length d.params == n) false
+sorted_call false k n d = if is_some d.result then called.Wrong rule.Shape else counted_call k (length d.params == n) d.is_recursive
 
 abbrev pub call_of : (is_term : Bool) → (number count : ℕ) → Option Definition → Called
 call_of is_term k n (Some d) = sorted_call is_term k n d

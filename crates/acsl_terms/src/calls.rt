@@ -51,7 +51,7 @@ fn sorted_call(is_term: bool, number: u32, count: usize, definition: &Definition
     counted_call(
         number,
         definition.params.len() == count,
-        is_term && definition.is_recursive,
+        definition.is_recursive,
     )
 }
 

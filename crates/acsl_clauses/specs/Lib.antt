@@ -1,0 +1,4 @@
+pub mod Each
+pub mod Items
+pub mod Typed
+pub mod Clauses

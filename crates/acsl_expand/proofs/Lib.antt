@@ -1,0 +1,4 @@
+pub mod Numbers
+pub mod Placing
+pub mod Calling
+pub mod Expanding

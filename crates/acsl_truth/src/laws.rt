@@ -1,0 +1,8 @@
+// What follows from the definitions.
+ghost use Rattle.acsl_truth.specs.Laws.{SameMeaning};
+
+/// An annotation that is expanded means what it means with its calls.
+#[tactic(auto, using(crate::proofs::Definitions::same_meaning))]
+pub fn same_meaning()
+    ensures { SameMeaning }
+{}

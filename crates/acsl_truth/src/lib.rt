@@ -1,0 +1,6 @@
+//! Floor 5, goals: what typed annotations mean in labelled states, and that this stays when definitions are expanded.
+#![tactic(auto)]
+
+mod laws;
+
+pub use laws::same_meaning;

@@ -14,13 +14,12 @@ use Rattle.c_parser.specs.Outcome as parser
 use Rattle.c_parser.proofs.Exact.{one_program, Says, outcome_says}
 use Rattle.parse_file.proofs.Parts.{parts}
 use Rattle.c_kinds.specs.declared.models.Machdep.{Machdep}
-use Rattle.typed_unit.specs.Unit.{Typed}
-use Rattle.c_typing.specs.Typing.{typed_program}
+use Rattle.acsl_typing.specs.Annotations.{Annotations}
 use Rattle.c_answers.specs.Answers.{Answer, Gives}
 use Rattle.core_prog.specs.Tree as t
 use Rattle.core_prog.specs.Names.{is_well_named_program}
 use Rattle.c_core.specs.Core.{core_of}
-use Rattle.c_front.specs.Text.{where_named, built, Spells, HasFault, unlexed, unspelled, past, untyped, unbuilt, SpellsOrHasFault}
+use Rattle.c_front.specs.Text.{where_named, built, annotated, Spells, HasFault, unlexed, unspelled, past, untyped, unbuilt, SpellsOrHasFault}
 
 same_tokens : (text : List ℕ) (ts us : List Token) → tokens_of text ≡ Ok ts → tokens_of text ≡ Ok us → ts ≡ us
 same_tokens text ts us a b = let same = sym a ∙ b in cc
@@ -52,7 +51,7 @@ no_fault m text p r s (unspelled ts line e none u) = none s.tree s.spelled.0 (su
 no_fault m text p r s (past ts line e over) = not_past s.tokens ts s.tree line (same_tokens text s.tokens ts s.lexed e) s.spelled over
 no_fault m text p r s (untyped ts tree q e within wrong) =
     let same = tree_once s.tokens ts s.tree tree (same_tokens text s.tokens ts s.lexed e) s.spelled within in
-    let typed : Ok s.typed ≡ Err q = sym s.types ∙ ap (typed_program m) same ∙ wrong in
+    let typed : Ok s.annots ≡ Err q = sym s.types ∙ ap (annotated m) same ∙ wrong in
     absurd cc
 no_fault m text p r s (unbuilt ts tree typed e within types none) =
     let same = tree_once s.tokens ts s.tree tree (same_tokens text s.tokens ts s.lexed e) s.spelled within in
@@ -122,29 +121,29 @@ one_fault m text r q (untyped ts tree r' e within wrong) (unspelled ts' line' e'
 one_fault m text r q (untyped ts tree r' e within wrong) (past ts' line' e' over) = absurd (not_past ts ts' tree line' (same_tokens text ts ts' e e') within over)
 one_fault m text r q (untyped ts tree r' e within wrong) (untyped ts' tree' q' e' within' wrong') =
     let same = tree_once ts ts' tree tree' (same_tokens text ts ts' e e') within within' in
-    let both : Err r' ≡ Err q' = sym wrong ∙ ap (typed_program m) same ∙ wrong' in
+    let both : Err r' ≡ Err q' = sym wrong ∙ ap (annotated m) same ∙ wrong' in
     cc
 one_fault m text r q (untyped ts tree r' e within wrong) (unbuilt ts' tree' ty e' within' types none) =
     let same = tree_once ts ts' tree tree' (same_tokens text ts ts' e e') within within' in
-    let both : Err r' ≡ Ok ty = sym wrong ∙ ap (typed_program m) same ∙ types in
+    let both : Err r' ≡ Ok ty = sym wrong ∙ ap (annotated m) same ∙ types in
     absurd cc
 one_fault m text r q (unbuilt ts tree ty e within types none) (untyped ts' tree' q' e' within' wrong) =
     let same = tree_once ts ts' tree tree' (same_tokens text ts ts' e e') within within' in
-    let both : Ok ty ≡ Err q' = sym types ∙ ap (typed_program m) same ∙ wrong in
+    let both : Ok ty ≡ Err q' = sym types ∙ ap (annotated m) same ∙ wrong in
     absurd cc
 
 -- ---- a program or a fault
 
-by_made : (m : Machdep) (text : List ℕ) (ts : List Token) (tree : d.Program) (ty : Typed) → tokens_of text ≡ Ok ts → SpellsWithin ts tree → typed_program m tree ≡ Ok ty → (made : Option t.Program) → built tree ≡ made → SpellsOrHasFault m text
-by_made m text ts tree ty e within types (Some p) is = inl (p, record { tokens = ts; tree = tree; lexed = e; spelled = within; typed = ty; types = types; made = is })
+by_made : (m : Machdep) (text : List ℕ) (ts : List Token) (tree : d.Program) (ty : Annotations) → tokens_of text ≡ Ok ts → SpellsWithin ts tree → annotated m tree ≡ Ok ty → (made : Option t.Program) → built tree ≡ made → SpellsOrHasFault m text
+by_made m text ts tree ty e within types (Some p) is = inl (p, record { tokens = ts; tree = tree; lexed = e; spelled = within; annots = ty; types = types; made = is })
 by_made m text ts tree ty e within types None none = inr (record { rule = rule.Unbuilt; line = 1 }, unbuilt ts tree ty e within types none)
 
-by_tree : (m : Machdep) (text : List ℕ) (ts : List Token) (tree : d.Program) → tokens_of text ≡ Ok ts → SpellsWithin ts tree → (given : Answer Typed) → typed_program m tree ≡ given → SpellsOrHasFault m text
+by_tree : (m : Machdep) (text : List ℕ) (ts : List Token) (tree : d.Program) → tokens_of text ≡ Ok ts → SpellsWithin ts tree → (given : Answer Annotations) → annotated m tree ≡ given → SpellsOrHasFault m text
 by_tree m text ts tree e within (Ok ty) is = by_made m text ts tree ty e within is (built tree) refl
 by_tree m text ts tree e within (Err r) is = inr (r, untyped ts tree r e within is)
 
 by_outcome : (m : Machdep) (text : List ℕ) (ts : List Token) → tokens_of text ≡ Ok ts → (given : Outcome) → Says ts given → SpellsOrHasFault m text
-by_outcome m text ts e (parsed tree) says = by_tree m text ts tree e says (typed_program m tree) refl
+by_outcome m text ts e (parsed tree) says = by_tree m text ts tree e says (annotated m tree) refl
 by_outcome m text ts e (parser.unspelled line) says = inr (record { rule = rule.Syntax; line = line }, unspelled ts line e says.0 says.1)
 by_outcome m text ts e (parser.past line) says = inr (record { rule = rule.Limit; line = line }, past ts line e says)
 
@@ -171,12 +170,12 @@ parsing_refused m text ts r e (inr s) =
     let is : r ≡ record { rule = rule.Limit; line = r.line } = ap (λ (x : Rule). record { rule = x; line = r.line }) s.0 in
     subst (HasFault m text) (sym is) (past ts r.line e s.1)
 
-pub typing_refused : (m : Machdep) (text : List ℕ) (ts : List Token) (p : d.Program) (r : Refusal) {X : Type 0} (see : X → Typed) (end : Stop) → tokens_of text ≡ Ok ts → SpellsWithin ts p → Gives see (Err end) (typed_program m p) → end ≡ stop.Refused r
+pub typing_refused : (m : Machdep) (text : List ℕ) (ts : List Token) (p : d.Program) (r : Refusal) {X : Type 0} (see : X → Annotations) (end : Stop) → tokens_of text ≡ Ok ts → SpellsWithin ts p → Gives see (Err end) (annotated m p) → end ≡ stop.Refused r
     → HasFault m text r
 typing_refused m text ts p r see (stop.Refused q) e within given is = let same : q ≡ r = cc in subst (HasFault m text) same (untyped ts p q e within given)
 typing_refused m text ts p r see stop.NoMemory e within given is = absurd cc
 
-pub not_built : (m : Machdep) (text : List ℕ) (ts : List Token) (p : d.Program) (ty : Typed) (r : Refusal) → tokens_of text ≡ Ok ts → SpellsWithin ts p → typed_program m p ≡ Ok ty → built p ≡ None → record { rule = rule.Unbuilt; line = 1 } ≡ r
+pub not_built : (m : Machdep) (text : List ℕ) (ts : List Token) (p : d.Program) (ty : Annotations) (r : Refusal) → tokens_of text ≡ Ok ts → SpellsWithin ts p → annotated m p ≡ Ok ty → built p ≡ None → record { rule = rule.Unbuilt; line = 1 } ≡ r
     → HasFault m text r
 not_built m text ts p ty r e within types none is = subst (HasFault m text) is (unbuilt ts p ty e within types none)
 

@@ -4,10 +4,13 @@ ghost use Rattle.core_prog.specs.Tree as t;
 ghost use Rattle.core_prog.specs.View.{view_program};
 ghost use Rattle.c_syntax.specs.View as tree;
 ghost use Rattle.c_lexer.specs.Tokens.{most_bytes};
+ghost use Rattle.acsl_typing.specs.Annotations.{view_annotations};
+ghost use Rattle.c_answers.specs.Answers.{Gives};
 ghost use Rattle.c_core.specs.Made.{Makes};
 ghost use Rattle.c_front.specs.Text as spec;
 ghost use Rattle.c_front.specs.Text.{HasFault, Spells, SpellsOrHasFault};
 
+use acsl_typing::{Annotations, type_annots};
 use c_core::{Unmade, core_of};
 use c_kinds::Machdep;
 use c_lexer::lex;
@@ -30,6 +33,15 @@ fn built(alloc: Global, program: &Program) -> Result<Core, Unmade>
     Ok(core)
 }
 
+// What the annotations of a program say, or the fault that comes first: those of declarations and code before those of annotations.
+#[tactic(auto, using(c_answers::proofs::After::after_laws), unfolding(crate::specs::Text::annotated))]
+fn annotated(alloc: Global, model: Machdep, program: &Program) -> Result<Annotations, Stop>
+    ensures { Gives view_annotations result (spec.annotated model (tree.view_program program.now)) }
+{
+    let typed = type_program(alloc, program, model)?;
+    type_annots(alloc, &typed)
+}
+
 /// Reads a text with this data model: the program that is to be verified, or the fault of the text.
 pub fn read_program(alloc: Global, model: Machdep, text: &[u8]) -> Result<Core, Stop>
     requires { length text.now ≤ most_bytes }
@@ -40,7 +52,7 @@ pub fn read_program(alloc: Global, model: Machdep, text: &[u8]) -> Result<Core, 
 {
     let tokens = lex(alloc, text)?;
     let program = parse(alloc, &tokens)?;
-    type_program(alloc, &program, model)?;
+    annotated(alloc, model, &program)?;
     match built(alloc, &program) {
         Ok(core) => Ok(core),
         Err(Unmade::Unbuilt) => Err(Stop::Refused(Refusal {

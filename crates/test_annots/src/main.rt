@@ -1,24 +1,24 @@
-//! Floor 8, tests: annotations. Each line of the file that it is given is a text of C with contracts, whose clauses are typed where they stand; the
-//! line is printed, and behind it how many nodes they have, or the first fault.
+//! Floor 8, tests: annotations. Each line of the file that it is given is a text of C; the line is printed, and behind it what its annotations say
+//! once they are typed and their definitions expanded, or the first fault.
 #![tactic(auto)]
 
-mod clauses;
+mod trees;
 
-use crate::clauses::typed_contract;
-use acsl_names::{Around, Count, Definitions, Limit, Site, Weight, limited};
+use crate::trees::{put_kids, put_tree};
+use acsl_annotated::type_annotated;
+use acsl_clauses::{Group, Role, Said, TypedClause};
+use acsl_notes::Note;
+use acsl_typing::{Annotation, Annotations};
 use c_kinds::Machdep;
 use c_lexer::lex;
 use c_parser::parse;
-use c_scopes::{File, Object};
-use c_syntax::{Contract, Program, Tokens};
+use c_syntax::{Program, Tokens};
 use c_typing::type_program;
-use name_table::{Scopes, Table};
 use std::alloc::Global;
 use std::io;
 use test_lines::{Page, given_text, print_page};
-use typed_prog::CoreType;
-use typed_unit::{Annotated, Typed};
-use wp_base::{List, NoMemory, Stop};
+use typed_unit::Typed;
+use wp_base::Stop;
 
 /// The greatest length of a line.
 const MOST_BYTES: usize = 1_000_000;
@@ -27,7 +27,7 @@ fn tell_stop(page: &mut Page, stop: Stop) {
     match stop {
         Stop::NoMemory => page.lack_memory(),
         Stop::Refused(refusal) => {
-            page.put("refused: ");
+            page.put(" refused: ");
             page.put_number(refusal.rule.number());
             page.put(" ");
             page.put(refusal.rule.name());
@@ -35,126 +35,97 @@ fn tell_stop(page: &mut Page, stop: Stop) {
     }
 }
 
-// How many cells each struct of a file has.
-fn sizes_of(alloc: Global, file: &File) -> Result<Vec<u32>, NoMemory> {
-    let mut sizes = Vec::new(alloc);
-    for structure in file.structs.as_slice() {
-        let count = structure.layout.cells.len();
-        if count > u32::MAX as usize {
-            return Err(NoMemory);
+fn role_word(role: Role) -> &'static str {
+    match role {
+        Role::Requires => " requires ",
+        Role::Assumes => " assumes ",
+        Role::Ensures => " ensures ",
+        Role::Invariant => " invariant ",
+    }
+}
+
+fn put_together(page: &mut Page, group: Group, numbers: &[u32]) {
+    page.put(match group {
+        Group::Complete => " complete",
+        Group::Disjoint => " disjoint",
+    });
+    for number in numbers {
+        page.put(" ");
+        page.put_number(*number);
+    }
+}
+
+fn put_clause(page: &mut Page, clause: &TypedClause) {
+    match &clause.said {
+        Said::Claims(role, tree) => {
+            page.put(role_word(*role));
+            put_tree(page, tree);
         }
-        sizes.push(count as u32)?;
+        Said::Decreases(tree) => {
+            page.put(" decreases ");
+            put_tree(page, tree);
+        }
+        Said::Assigns(regions) => {
+            page.put(" assigns");
+            put_kids(page, regions.as_slice());
+        }
+        Said::Begins(number) => {
+            page.put(" behavior ");
+            page.put_number(*number);
+        }
+        Said::Together(group, numbers) => put_together(page, *group, numbers.as_slice()),
     }
-    Ok(sizes)
+    page.put(";");
 }
 
-// The parameters of a function, in scope.
-fn scope_of(alloc: Global, params: &[Object]) -> Result<Scopes<u32>, NoMemory> {
-    let mut blocks = Scopes::new(alloc);
-    blocks.enter(alloc)?;
-    let mut number: u32 = 0;
-    for param in params {
-        blocks.declare(alloc, &param.name, number)?;
-        number = number.checked_add(1).ok_or(NoMemory)?;
-    }
-    Ok(blocks)
-}
-
-// What a function gives; `void` where the file has no function of this number.
-fn result_of(alloc: Global, file: &File, number: u32) -> Result<CoreType, NoMemory> {
-    match file.functions.get(number as usize) {
-        Some(function) => function.result.copy(alloc),
-        None => Ok(CoreType::void(alloc)),
+fn put_clauses(page: &mut Page, clauses: &[TypedClause]) {
+    for clause in clauses {
+        put_clause(page, clause);
     }
 }
 
-fn around_of<'a>(
-    model: Machdep,
-    names: usize,
-    tags: usize,
-    file: &'a File,
-    sizes: &'a [u32],
-    definitions: &'a Definitions,
-    blocks: &'a Scopes<u32>,
-    objects: &'a [Object],
-    gives: &'a CoreType,
-) -> Around<'a> {
-    Around {
-        model,
-        sizes,
-        file,
-        names,
-        tags,
-        definitions,
-        blocks,
-        objects,
-        params: objects.len(),
-        site: Site::Contract,
-        result: gives,
-        itself: None,
-        down: None,
+fn put_note(page: &mut Page, note: &Note) {
+    match note {
+        Note::Loop(clauses) => {
+            page.put(" loop:");
+            put_clauses(page, clauses.as_slice());
+        }
+        Note::Assertion(tree) => {
+            page.put(" assert ");
+            put_tree(page, tree);
+            page.put(";");
+        }
     }
 }
 
-fn contract_nodes(
-    alloc: Global,
-    typed: &Typed<'_>,
-    names: usize,
-    tags: usize,
-    number: u32,
-    objects: &[Object],
-    contract: &Contract,
-) -> Result<u32, Stop> {
-    let sizes = sizes_of(alloc, &typed.file)?;
-    let blocks = scope_of(alloc, objects)?;
-    let result = result_of(alloc, &typed.file, number)?;
-    let definitions = Definitions {
-        names: Table::new(alloc),
-        items: List::new(alloc),
-    };
-    let around = around_of(
-        typed.model,
-        names,
-        tags,
-        &typed.file,
-        sizes.as_slice(),
-        &definitions,
-        &blocks,
-        objects,
-        &result,
-    );
-    let mut count = Count {
-        limit: Limit::Counting,
-        weight: Weight::none(alloc, 0)?,
-    };
-    typed_contract(alloc, &around, &mut count, contract)?;
-    limited(count.limit)?;
-    Ok(count.weight.own)
-}
-
-fn tell_parts(alloc: Global, page: &mut Page, typed: &Typed<'_>) {
-    for part in typed.parts.as_slice() {
-        match &part.decl {
-            Annotated::Function(number, params, contract, _) => {
-                let (names, tags) = (part.names as usize, part.tags as usize);
-                let objects = params.as_slice();
-                match contract_nodes(alloc, typed, names, tags, *number, objects, contract) {
-                    Ok(0) => {}
-                    Ok(nodes) => {
-                        page.put_number(nodes);
-                        page.put(" nodes");
-                    }
-                    Err(stop) => return tell_stop(page, stop),
+fn put_annotations(page: &mut Page, annotations: &Annotations) {
+    for annotation in annotations.items.as_slice() {
+        match annotation {
+            Annotation::Function(clauses, notes) => {
+                put_clauses(page, clauses.as_slice());
+                for note in notes.as_slice() {
+                    put_note(page, note);
                 }
             }
-            Annotated::Logic(_) => page.put("a definition"),
+            Annotation::Definition(tree) => {
+                page.put(" stands for ");
+                put_tree(page, tree);
+                page.put(";");
+            }
         }
+    }
+}
+
+fn tell_typed(alloc: Global, page: &mut Page, typed: &Typed<'_>) {
+    match type_annotated(alloc, typed) {
+        Ok(annotations) => put_annotations(page, &annotations),
+        Err(stop) => tell_stop(page, stop),
     }
 }
 
 fn tell_program(alloc: Global, page: &mut Page, program: &Program) {
     match type_program(alloc, program, Machdep::X86_64) {
-        Ok(typed) => tell_parts(alloc, page, &typed),
+        Ok(typed) => tell_typed(alloc, page, &typed),
         Err(stop) => tell_stop(page, stop),
     }
 }
@@ -169,7 +140,7 @@ fn tell_tokens(alloc: Global, page: &mut Page, tokens: &Tokens) {
 fn tell_text(alloc: Global, page: &mut Page, text: &str) {
     let bytes = text.as_bytes();
     if bytes.len() > MOST_BYTES {
-        return page.put("too long");
+        return page.put(" too long");
     }
     match lex(alloc, bytes) {
         Ok(tokens) => tell_tokens(alloc, page, &tokens),
@@ -181,7 +152,7 @@ fn page_of(alloc: Global, texts: &str) -> Page {
     let mut page = Page::new(alloc);
     for text in texts.lines() {
         page.put(text);
-        page.put("  => ");
+        page.put("  =>");
         tell_text(alloc, &mut page, text);
         page.put("\n");
     }

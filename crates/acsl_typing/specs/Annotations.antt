@@ -1,7 +1,9 @@
 -- The annotations of a typed file, typed in the order of the text, or the first fault among them (ACSL 2.3 to 2.6). Of each declaration first the
 -- contract, and then what stands in the body.
 use Rattle.std.specs.Prelude.{ℕ, ◌+◌, nat_lt, ◌&&◌, Bool, true, false, if◌then◌else◌, List, [], ◌∷◌, ◌++◌, length, map, slice_get, slice_index_or, slice_set, Option, Some, None, Ok}
+use Rattle.std.specs.Option.{is_some}
 use Rattle.c_answers.specs.Answers.{Answer, after}
+use Rattle.name_table.specs.Names.{meaning_among}
 use Rattle.c_syntax.specs.Contract.{Contract}
 use Rattle.c_syntax.specs.Decl as d
 use Rattle.typed_prog.specs.declared.types.CoreType.{CoreType}
@@ -101,8 +103,20 @@ contract_of t k names tags i ps q = contract_checked (around_contract t k names 
 
 -- ---- bodies
 
+-- In its body a function is declared itself, also where it wasn't before.
+abbrev pub names_by : (names : ℕ) → (is_declared : Bool) → ℕ
+names_by n true = n
+names_by n false = n + 1
+
+abbrev pub is_declared_among : File → (names : ℕ) → Option Signature → Bool
+is_declared_among f n (Some g) = is_some (meaning_among n f.names g.name)
+is_declared_among f n None = true
+
+abbrev pub names_inside : File → (names number : ℕ) → ℕ
+names_inside f n i = names_by n (is_declared_among f n (slice_get f.functions i))
+
 abbrev pub enclosing_of : u.Typed → Annotating → (names tags number : ℕ) → List Object → u.Body → Enclosing
-enclosing_of t k names tags i ps b = record { before = before_of t k.sizes names tags; definitions = k.definitions; within = within_of t.file i b.locals (length ps) }
+enclosing_of t k names tags i ps b = record { before = before_of t k.sizes (names_inside t.file names i) tags; definitions = k.definitions; within = within_of t.file i b.locals (length ps) }
 
 abbrev pub notes_in : u.Typed → Annotating → (names tags number : ℕ) → List Object → Option u.Body → Answer (List Note)
 notes_in t k names tags i ps None = Ok []

@@ -16,7 +16,7 @@ use acsl_clauses::{Item, TypedClause, contract_items, typed_contract};
 use acsl_names::{Around, Site, Within};
 use acsl_notes::{Enclosing, Note, body_noted, params_scope};
 use acsl_terms::misshapen;
-use c_scopes::Object;
+use c_scopes::{File, Object, Signature};
 use c_syntax::Contract;
 use std::alloc::Global;
 use typed_unit::{Body, Typed};
@@ -114,6 +114,29 @@ fn next_body<'a, 'b>(
     }
 }
 
+fn is_declared(file: &File, names: u32, function: Option<&Signature>) -> bool
+    ensures { result ≡ spec.is_declared_among file.now names (option_copied function.entry) }
+{
+    match function {
+        Some(function) => file
+            .names
+            .find_among(names as usize, &function.name)
+            .is_some(),
+        None => true,
+    }
+}
+
+// How many names the file declares before what stands in a body; the function itself is one of them.
+fn names_inside(file: &File, names: u32, number: u32) -> Result<u32, NoMemory>
+    ensures { IfOk result (λ inside. inside ≡ spec.names_inside file.now names number) }
+{
+    if is_declared(file, names, file.functions.get(number as usize)) {
+        Ok(names)
+    } else {
+        names.checked_add(1).ok_or(NoMemory)
+    }
+}
+
 fn notes_in(
     alloc: Global,
     typed: &Typed<'_>,
@@ -130,13 +153,9 @@ fn notes_in(
         params: declared.params.len(),
         result: &gives,
     };
+    let names = names_inside(&typed.file, declared.names, declared.number)?;
     let enclosing = Enclosing {
-        before: before_of(
-            typed,
-            so_far.sizes.as_slice(),
-            declared.names,
-            declared.tags,
-        ),
+        before: before_of(typed, so_far.sizes.as_slice(), names, declared.tags),
         definitions: &so_far.definitions,
         within,
     };

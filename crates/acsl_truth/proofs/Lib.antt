@@ -1,3 +1,4 @@
 pub mod Standing
 pub mod Meaning
 pub mod Definitions
+pub mod Changing

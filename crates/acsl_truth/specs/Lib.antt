@@ -1,3 +1,4 @@
 pub mod States
 pub mod Truth
 pub mod Laws
+pub mod Allowed

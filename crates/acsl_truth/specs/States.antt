@@ -8,6 +8,7 @@ use Rattle.wp_base.specs.Blocks.{Table, is_cell, is_writable, to_nat}
 use Rattle.c_kinds.specs.declared.models.Machdep.{Machdep}
 use Rattle.typed_prog.specs.declared.operators.Variable.{Variable}
 use Rattle.qed_terms.specs.Operators.{is_zero, is_equal}
+use Rattle.qed_terms.specs.Meaning.{all_from, some_from}
 use Rattle.acsl_trees.specs.declared.heads.Content.{Content}
 use Rattle.acsl_trees.specs.declared.heads.Content.TheVariants as content
 use Rattle.acsl_trees.specs.declared.heads.Label.{Label}
@@ -137,16 +138,8 @@ read (content.Struct n) s v = v
 abbrev pub count_between : (low high : ℤ) → ℕ
 count_between low high = to_nat (high -ℤ low +ℤ pos 1)
 
-abbrev pub every_from : (low : ℤ) → (count : ℕ) → (ℤ → Bool) → Bool
-every_from z zero test = true
-every_from z (suc n) test = test z && every_from (z +ℤ pos 1) n test
-
-abbrev pub some_from : (low : ℤ) → (count : ℕ) → (ℤ → Bool) → Bool
-some_from z zero test = false
-some_from z (suc n) test = test z || some_from (z +ℤ pos 1) n test
-
 abbrev pub every_between : (low high : ℤ) → (ℤ → Bool) → Bool
-every_between low high test = every_from low (count_between low high) test
+every_between low high test = all_from low (count_between low high) test
 
 abbrev pub some_between : (low high : ℤ) → (ℤ → Bool) → Bool
 some_between low high test = some_from low (count_between low high) test

@@ -13,7 +13,7 @@ use Rattle.acsl_trees.specs.declared.heads.Head.{Head}
 use Rattle.acsl_trees.specs.declared.heads.Head.TheVariants as h
 use Rattle.acsl_trees.specs.declared.heads.Range.{Range}
 use Rattle.acsl_trees.specs.declared.heads.Range.TheVariants as range
-use Rattle.acsl_trees.specs.Tree.{Tree, Trees, node, stop, more, leaf, list_of}
+use Rattle.acsl_trees.specs.Tree.{Tree, Trees, node, stop, more, list_of}
 use Rattle.acsl_expand.specs.Expansion.{Definition, definition_at, nought}
 use Rattle.acsl_truth.specs.States.{Value, number, pointer, addresses, region, World, null, number_of, block_of, offset_of, span_of, truth, is_true, moved_to, state_at, content_cells, read, is_valid, all_apart, every_between, some_between}
 

@@ -1,8 +1,14 @@
 // What follows from the definitions.
+ghost use Rattle.acsl_truth.specs.Allowed.{ChangesAdd};
 ghost use Rattle.acsl_truth.specs.Laws.{SameMeaning};
 
 /// An annotation that is expanded means what it means with its calls.
 #[tactic(auto, using(crate::proofs::Definitions::same_meaning))]
 pub fn same_meaning()
     ensures { SameMeaning }
+{}
+
+/// Nothing need change, a larger set allows more, and what is allowed twice in turn is allowed at once.
+pub fn changes_add()
+    ensures { ChangesAdd }
 {}

@@ -3,4 +3,4 @@
 
 mod laws;
 
-pub use laws::same_meaning;
+pub use laws::{changes_add, same_meaning};

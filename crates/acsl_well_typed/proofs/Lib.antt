@@ -1,0 +1,16 @@
+pub mod Answers
+pub mod Making
+pub mod Finding
+pub mod Terms
+pub mod Regions
+pub mod Quantifiers
+pub mod Truths
+pub mod Chaining
+pub mod Scoping
+pub mod Aligning
+pub mod Ending
+pub mod Judging
+pub mod Lists
+pub mod Growth
+pub mod Bodies
+pub mod Notes

@@ -1,0 +1,8 @@
+pub mod WellTyped
+pub mod Terms
+pub mod Places
+pub mod Preds
+pub mod Ranges
+pub mod Clauses
+pub mod Definitions
+pub mod Files

@@ -2,3 +2,4 @@ pub mod Standing
 pub mod Meaning
 pub mod Definitions
 pub mod Changing
+pub mod Ranging

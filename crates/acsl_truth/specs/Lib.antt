@@ -2,3 +2,4 @@ pub mod States
 pub mod Truth
 pub mod Laws
 pub mod Allowed
+pub mod Ranges

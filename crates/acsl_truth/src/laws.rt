@@ -1,6 +1,7 @@
 // What follows from the definitions.
 ghost use Rattle.acsl_truth.specs.Allowed.{ChangesAdd};
 ghost use Rattle.acsl_truth.specs.Laws.{SameMeaning};
+ghost use Rattle.acsl_truth.specs.Ranges.{RangesSay};
 
 /// An annotation that is expanded means what it means with its calls.
 #[tactic(auto, using(crate::proofs::Definitions::same_meaning))]
@@ -11,4 +12,9 @@ pub fn same_meaning()
 /// Nothing need change, a larger set allows more, and what is allowed twice in turn is allowed at once.
 pub fn changes_add()
     ensures { ChangesAdd }
+{}
+
+/// Quantifiers over the numbers between two ends say what they say of each number, or of one.
+pub fn ranges_say()
+    ensures { RangesSay }
 {}

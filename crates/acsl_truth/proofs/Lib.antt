@@ -3,3 +3,4 @@ pub mod Meaning
 pub mod Definitions
 pub mod Changing
 pub mod Ranging
+pub mod Unfolding

@@ -3,3 +3,4 @@ pub mod Truth
 pub mod Laws
 pub mod Allowed
 pub mod Ranges
+pub mod Recursion

@@ -2,6 +2,7 @@
 ghost use Rattle.acsl_truth.specs.Allowed.{ChangesAdd};
 ghost use Rattle.acsl_truth.specs.Laws.{SameMeaning};
 ghost use Rattle.acsl_truth.specs.Ranges.{RangesSay};
+ghost use Rattle.acsl_truth.specs.Recursion.{RecursionUnfolds};
 
 /// An annotation that is expanded means what it means with its calls.
 #[tactic(auto, using(crate::proofs::Definitions::same_meaning))]
@@ -17,4 +18,9 @@ pub fn changes_add()
 /// Quantifiers over the numbers between two ends say what they say of each number, or of one.
 pub fn ranges_say()
     ensures { RangesSay }
+{}
+
+/// A logic function that calls itself has the value of its body, in which its calls of itself have their own values.
+pub fn recursion_unfolds()
+    ensures { RecursionUnfolds }
 {}

@@ -3,4 +3,4 @@
 
 mod laws;
 
-pub use laws::{changes_add, ranges_say, same_meaning};
+pub use laws::{changes_add, ranges_say, recursion_unfolds, same_meaning};

@@ -93,6 +93,11 @@ high_end cs g = high_of g.descending (or_truth (slice_get cs g.conjunct))
 
 -- ---- quantifiers
 
+-- over all numbers of a kind, with no ends
+abbrev pub is_kind : Over → Bool
+is_kind (over.Kind k) = true
+is_kind (over.Guarded g) = false
+
 abbrev pub quantifier : (for_all : Bool) → Range → Head
 quantifier true r = head.Every r
 quantifier false r = head.Some r

@@ -366,5 +366,5 @@ fn quantifier(
     let overs = binders_typed(alloc, around, names, count.limit, for_all, decls, inside)?;
     let body = typed_pred(alloc, around, names, reading, count, inside)?;
     leave(alloc, names, known);
-    Ok(quantified(alloc, for_all, overs.as_slice(), &body)?)
+    Ok(quantified(alloc, for_all, overs.as_slice(), body)?)
 }

@@ -1,6 +1,6 @@
 // Quantifiers over ranges (ACSL 2.2.2).
 ghost use Rattle.std.specs.Prelude.{◌≡◌, ◌++◌, IfOk, OnOk, MatchResult};
-ghost use Rattle.std.specs.List.{list_any};
+ghost use Rattle.std.specs.List.{list_all, list_any};
 ghost use Rattle.std.specs.Option.{option_map};
 ghost use Rattle.acsl_preds.specs.Ranges as spec;
 ghost use Rattle.acsl_trees.specs.Tree.{trees_of, list_of, view_tree, view_trees};
@@ -277,20 +277,33 @@ fn every_under(
 }
 
 #[tactic(auto, using(crate::proofs::Ends::head_is))]
-fn every(alloc: Global, overs: &[Over], body: &Tree) -> Result<Tree, NoMemory>
-    ensures { IfOk result (λ t. view_tree t ≡ spec.every overs.now (view_tree body.now)) }
+fn every(alloc: Global, overs: &[Over], body: Tree) -> Result<Tree, NoMemory>
+    ensures { IfOk result (λ t. view_tree t ≡ spec.every overs.now (view_tree body)) }
 {
     if is_implication(body.head) {
-        if let Some((premise, conclusion)) = sides(body) {
+        if let Some((premise, conclusion)) = sides(&body) {
             let mut found = Vec::new(alloc);
             conjuncts(premise, &mut found)?;
             return every_under(alloc, overs, found.as_slice(), conclusion);
         }
     }
-    over_all(alloc, true, &[], overs, body.copy(alloc)?)
+    over_all(alloc, true, &[], overs, body)
 }
 
-fn some(alloc: Global, overs: &[Over], body: &Tree) -> Result<Tree, NoMemory>
+fn is_kind(over: Over) -> bool
+    ensures { result ≡ spec.is_kind over }
+{
+    matches!(over, Over::Kind(_))
+}
+
+fn are_kinds(overs: &[Over]) -> bool
+    ensures { result ≡ list_all spec.is_kind overs.now }
+{
+    overs.iter().all(|over| is_kind(*over))
+}
+
+// The body is looked at for the ends of ranges.
+fn some_in_ranges(alloc: Global, overs: &[Over], body: &Tree) -> Result<Tree, NoMemory>
     ensures { IfOk result (λ t. view_tree t ≡ spec.some overs.now (view_tree body.now)) }
 {
     let mut found = Vec::new(alloc);
@@ -302,15 +315,27 @@ fn some(alloc: Global, overs: &[Over], body: &Tree) -> Result<Tree, NoMemory>
     over_all(alloc, false, found.as_slice(), overs, kept)
 }
 
+// Where no range has ends, the body isn't looked at, and not copied.
+#[tactic(auto, using(crate::proofs::Endless::some_of_kinds))]
+fn some(alloc: Global, overs: &[Over], body: Tree) -> Result<Tree, NoMemory>
+    ensures { IfOk result (λ t. view_tree t ≡ spec.some overs.now (view_tree body)) }
+{
+    if !is_and(body.head) && are_kinds(overs) {
+        over_all(alloc, false, &[], overs, body)
+    } else {
+        some_in_ranges(alloc, overs, &body)
+    }
+}
+
 /// A body under a quantifier whose binders go over these ranges; the chains that say no more than a range are left out of it.
 #[tactic(auto, unfolding(crate::specs::Ranges::quantified))]
 pub(crate) fn quantified(
     alloc: Global,
     for_all: bool,
     overs: &[Over],
-    body: &Tree,
+    body: Tree,
 ) -> Result<Tree, NoMemory>
-    ensures { IfOk result (λ t. view_tree t ≡ spec.quantified for_all overs.now (view_tree body.now)) }
+    ensures { IfOk result (λ t. view_tree t ≡ spec.quantified for_all overs.now (view_tree body)) }
 {
     if for_all {
         every(alloc, overs, body)

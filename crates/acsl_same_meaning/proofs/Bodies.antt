@@ -38,7 +38,8 @@ use Rattle.acsl_definitions.specs.Definitions.{around_body, name_checked, spelle
 use Rattle.acsl_truth.specs.Laws.{Signatures, is_well_formed, tests_number, is_definition}
 use Rattle.acsl_same_meaning.specs.Trees.{Signed, MayLabel}
 use Rattle.acsl_same_meaning.specs.Definitions.{IsOneMore}
-use Rattle.acsl_same_meaning.specs.Spelled.{AreNumbered, BodyIsSpelled, IsSpelled}
+use Rattle.acsl_well_typed.specs.Ranges.{AreNumbered}
+use Rattle.acsl_same_meaning.specs.Spelled.{BodyIsSpelled, IsSpelled}
 use Rattle.acsl_same_meaning.proofs.Answers.{after_holds, after_any, holds_all, holds_any, holds_each, holds_both, closed_holds, Of}
 use Rattle.acsl_same_meaning.proofs.Operators.{both, Good, IsGood, conditional_fits}
 use Rattle.acsl_same_meaning.proofs.Objects.{passed_fits}

@@ -29,7 +29,7 @@ use Rattle.acsl_preds.specs.declared.binders.Over.TheVariants as over
 use Rattle.acsl_preds.specs.Binders.{inside, with_bound, one_binder, binders}
 use Rattle.acsl_preds.specs.Preds.{all_typed, onto as behind_those, chain_typed, let_value, let_tree, labelled, number, binders_typed, typed_pred}
 use Rattle.acsl_preds.specs.Ranges.{is_and, conjuncts, conjuncts_in, kids_of, over_all, is_implication, sides_of, every_sides, head_of, quantified}
-use Rattle.acsl_same_meaning.specs.Spelled.{BindsOne, EachBinds}
+use Rattle.acsl_well_typed.specs.Ranges.{BindsOne, EachBinds}
 use Rattle.acsl_same_meaning.proofs.Answers.{after_holds, after_any, holds_all, holds_any, if_holds, ended_holds, closed_holds, Of}
 use Rattle.acsl_same_meaning.proofs.Quantifiers.{ranging}
 

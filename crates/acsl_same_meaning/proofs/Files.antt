@@ -18,7 +18,9 @@ use Rattle.acsl_annotated.specs.Annotated.{is_recursive_by, meant}
 use Rattle.acsl_truth.specs.Laws.{Signatures, is_definition}
 use Rattle.acsl_same_meaning.specs.Trees.{Signed}
 use Rattle.acsl_same_meaning.specs.Definitions.{IsOneMore}
-use Rattle.acsl_same_meaning.specs.Spelled.{All, ItemBinds, StmtBinds, IsSpelled, PartIsSpelled, FileIsSpelled}
+use Rattle.acsl_well_typed.specs.Clauses.{All, ItemBinds}
+use Rattle.acsl_well_typed.specs.Files.{StmtBinds}
+use Rattle.acsl_same_meaning.specs.Spelled.{IsSpelled, PartIsSpelled, FileIsSpelled}
 use Rattle.acsl_same_meaning.specs.Laws.{ClauseFits, NoteFits}
 use Rattle.acsl_same_meaning.proofs.Answers.{after_holds, holds_all}
 use Rattle.acsl_same_meaning.proofs.Bodies.{AllStand, signed_first, found_first, found_last, definition_is}

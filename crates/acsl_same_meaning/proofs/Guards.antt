@@ -34,7 +34,7 @@ use Rattle.acsl_preds.specs.Preds.{chain_typed, typed_pred}
 use Rattle.acsl_preds.specs.Ranges.{or_truth, low_of, high_of}
 use Rattle.acsl_truth.specs.Laws.{Signatures}
 use Rattle.acsl_same_meaning.specs.Trees.{Signed, MayLabel}
-use Rattle.acsl_same_meaning.specs.Spelled.{AreNumbered}
+use Rattle.acsl_well_typed.specs.Ranges.{AreNumbered}
 use Rattle.acsl_same_meaning.proofs.Answers.{after_holds, after_any, holds_both, Of, answered}
 use Rattle.acsl_same_meaning.proofs.Operators.{Good}
 use Rattle.acsl_same_meaning.proofs.Terms.{AreFine, neither}

@@ -29,7 +29,9 @@ use Rattle.acsl_clauses.specs.Clauses.{no_names, at_start, site_of, claim_typed,
 use Rattle.acsl_notes.specs.Notes.{of_loop, assertion, Enclosing, Noted, opened, with_object, with_locals, around_at, with_loop, with_assertion, noted, all_noted, at_start as noted_at_start, body_noted}
 use Rattle.acsl_truth.specs.Laws.{Signatures}
 use Rattle.acsl_same_meaning.specs.Trees.{Signed, MayLabel}
-use Rattle.acsl_same_meaning.specs.Spelled.{All, AreNumbered, EachBinds, ItemBinds, StmtBinds, StmtsBind}
+use Rattle.acsl_well_typed.specs.Clauses.{All, ItemBinds}
+use Rattle.acsl_well_typed.specs.Files.{StmtBinds, StmtsBind}
+use Rattle.acsl_well_typed.specs.Ranges.{AreNumbered, EachBinds}
 use Rattle.acsl_same_meaning.specs.Laws.{IsWellFormed, SaidFits, ClauseFits, NoteFits}
 use Rattle.acsl_same_meaning.proofs.Answers.{after_holds, after_any, if_holds, ended_holds, closed_holds, Of}
 use Rattle.acsl_same_meaning.proofs.Operators.{IsGood}

@@ -11,7 +11,7 @@ use Rattle.acsl_annotated.specs.Annotated.{meant, meant_from, params_by, said_ex
 use Rattle.acsl_truth.specs.Laws.{Signatures, is_definition, are_definitions, Expands}
 use Rattle.acsl_truth.proofs.Definitions.{same_meaning}
 use Rattle.acsl_same_meaning.specs.Trees.{Signed}
-use Rattle.acsl_same_meaning.specs.Spelled.{All}
+use Rattle.acsl_well_typed.specs.Clauses.{All}
 use Rattle.acsl_same_meaning.specs.Laws.{is_term_by, signatures_of, meanings, IsWellFormed, SaidFits, ClauseFits, NoteFits, AnnotationFits, FileFits, FilesAreWellFormed, Each, SameValue, SameSaid, SameClause, SameNote, SameAnnotation, MeanTheSame, FilesMeanTheSame}
 use Rattle.acsl_same_meaning.proofs.Operators.{both}
 use Rattle.acsl_same_meaning.proofs.Bodies.{AllStand}

@@ -20,8 +20,11 @@ use Rattle.c_decls.specs.Globals.{globals_declared}
 use Rattle.c_typing.specs.Typing.{Facts, facts_of, Unit as Left, at_start, declaration, declarations, typed_program}
 use Rattle.acsl_rules.specs.Laws.{Holds}
 use Rattle.acsl_clauses.specs.Items.{loop_items}
-use Rattle.acsl_same_meaning.specs.Spelled.{All, ItemBinds, StmtBinds, StmtsBind, PartIsSpelled, FileIsSpelled}
-use Rattle.acsl_same_meaning.specs.Programs.{SpelledBinds, AllSpelled, BodyBinds, DeclIsSpelled, TypedFilesAreSpelled}
+use Rattle.acsl_well_typed.specs.Clauses.{All, ItemBinds}
+use Rattle.acsl_well_typed.specs.Files.{StmtBinds, StmtsBind}
+use Rattle.acsl_same_meaning.specs.Spelled.{PartIsSpelled, FileIsSpelled}
+use Rattle.acsl_binders.specs.Spelled.{SpelledBinds, AllSpelledBind, BodySpelledBinds}
+use Rattle.acsl_same_meaning.specs.Programs.{DeclIsSpelled, TypedFilesAreSpelled}
 use Rattle.acsl_same_meaning.proofs.Answers.{after_holds, after_any, answered}
 use Rattle.acsl_same_meaning.proofs.Lists.{both_all}
 
@@ -74,13 +77,13 @@ mutual
   stmt_is c (p.return_of line a) f = after_any Binds (return_value c line a) _ (λ v. tt)
   stmt_is c (p.assert line q) f = f
 
-  stmts_are : (c : Context) (xs : p.Stmts) → AllSpelled xs → Holds (λ r. StmtsBind r.0) (stmts c xs)
+  stmts_are : (c : Context) (xs : p.Stmts) → AllSpelledBind xs → Holds (λ r. StmtsBind r.0) (stmts c xs)
   stmts_are c p.stop f = tt
   stmts_are c (p.more x xs) f =
       after_holds Binds (λ r. StmtsBind r.0) (stmt c x) _ (stmt_is c x f.0)
       (λ r g. after_holds (λ r. StmtsBind r.0) (λ r. StmtsBind r.0) (stmts r.1 xs) _ (stmts_are r.1 xs f.1) (λ q h. (g, h)))
 
-  labelled_are : (k : Option Kind) (zs : List ℤ) (c : Context) (xs : p.Stmts) → AllSpelled xs → Holds (λ r. StmtsBind r.0) (labelled k zs c xs)
+  labelled_are : (k : Option Kind) (zs : List ℤ) (c : Context) (xs : p.Stmts) → AllSpelledBind xs → Holds (λ r. StmtsBind r.0) (labelled k zs c xs)
   labelled_are k zs c p.stop f = tt
   labelled_are k zs c (p.more x xs) f =
       after_holds ItemIs (λ r. StmtsBind r.0) (item k zs c x (stmt c x)) _ (item_is k zs c x (stmt c x) (stmt_is c x f.0))
@@ -103,7 +106,7 @@ pub record AreLeft (fs : Functions) : Type 0 where
   pub parts : All PartIs fs.parts
   pub bodies : All BodyIs fs.bodies
 
-with_stmt_is : (c : Context) (bs : List u.Body) (g : d.Function) (o : Option p.Stmt) → BodyBinds o → All BodyIs bs
+with_stmt_is : (c : Context) (bs : List u.Body) (g : d.Function) (o : Option p.Stmt) → BodySpelledBinds o → All BodyIs bs
     → Holds (λ r. All BodyIs r.0) (with_stmt c bs g o)
 with_stmt_is c bs g None f all = all
 with_stmt_is c bs g (Some x) f all = after_holds Binds (λ r. All BodyIs r.0) (body c x) _ (body_is c x f) (λ r h. both_all BodyIs bs _ all (h, tt))

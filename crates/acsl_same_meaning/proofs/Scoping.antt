@@ -7,7 +7,7 @@ use Rattle.name_table.proofs.Hiding.{hides, enters}
 use Rattle.acsl_trees.specs.declared.operands.TermType.{TermType}
 use Rattle.acsl_names.specs.declared.names.Bound.{Bound}
 use Rattle.acsl_preds.specs.Binders.{inside, with_bound, is_new}
-use Rattle.acsl_same_meaning.specs.Spelled.{AreNumbered}
+use Rattle.acsl_well_typed.specs.Ranges.{AreNumbered}
 
 pub same_bytes : (x y : List ℕ) → bytes_eq x y ≡ true → x ≡ y
 same_bytes x y h = (bytes_eq-Decides x y).0 h

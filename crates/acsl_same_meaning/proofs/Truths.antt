@@ -33,7 +33,7 @@ use Rattle.acsl_preds.specs.Binders.{inside, with_bound, is_new, over_by, binder
 use Rattle.acsl_preds.specs.Preds.{all_typed, onto, chain_typed, let_by, let_tree, labelled, number, binders_typed, typed_pred}
 use Rattle.acsl_truth.specs.Laws.{Signatures}
 use Rattle.acsl_same_meaning.specs.Trees.{Signed, MayLabel}
-use Rattle.acsl_same_meaning.specs.Spelled.{BindsOne, EachBinds, AreNumbered}
+use Rattle.acsl_well_typed.specs.Ranges.{BindsOne, EachBinds, AreNumbered}
 use Rattle.acsl_same_meaning.proofs.Answers.{after_holds, after_any, after_with, ended_holds, ended_is, closed_holds, Of}
 use Rattle.acsl_same_meaning.proofs.Operators.{only, pair, triple, Good, IsGood, valued_fits}
 use Rattle.acsl_same_meaning.proofs.Chains.{AllGood, chain_fits}

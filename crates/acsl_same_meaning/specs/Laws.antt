@@ -12,7 +12,8 @@ use Rattle.acsl_annotated.specs.Annotated.{meant_from, params_by, file_expanded}
 use Rattle.acsl_truth.specs.States.{World}
 use Rattle.acsl_truth.specs.Truth.{Env, value, calls_of}
 use Rattle.acsl_truth.specs.Laws.{Signatures, is_well_formed, are_definitions}
-use Rattle.acsl_same_meaning.specs.Spelled.{All, FileIsSpelled}
+use Rattle.acsl_well_typed.specs.Clauses.{All}
+use Rattle.acsl_same_meaning.specs.Spelled.{FileIsSpelled}
 
 -- ---- what a file's annotations refer to
 

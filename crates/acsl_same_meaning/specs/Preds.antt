@@ -9,7 +9,7 @@ use Rattle.acsl_names.specs.Names.{Around}
 use Rattle.acsl_preds.specs.Preds.{typed_pred}
 use Rattle.acsl_truth.specs.Laws.{Signatures}
 use Rattle.acsl_same_meaning.specs.Trees.{Fits, Signed, MayLabel}
-use Rattle.acsl_same_meaning.specs.Spelled.{EachBinds, AreNumbered}
+use Rattle.acsl_well_typed.specs.Ranges.{EachBinds, AreNumbered}
 
 -- Binders may stand in a predicate. The ends of a range stand under the binders before it.
 abbrev pub PredsAreWellFormed : Type 0

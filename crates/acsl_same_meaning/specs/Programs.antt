@@ -1,53 +1,27 @@
 -- Files that come from a text are spelled as the grammar has it (C11 6.9, ACSL 2).
-use Rattle.std.specs.Prelude.{◌≡◌, List, Option, Some, None, Ok}
+use Rattle.std.specs.Prelude.{◌≡◌, List, Ok}
 use Rattle.c_kinds.specs.declared.models.Machdep.{Machdep}
 use Rattle.c_syntax.specs.declared.token.Token.{Token}
-use Rattle.c_syntax.specs.Stmt as p
 use Rattle.c_syntax.specs.Decl as d
 use Rattle.c_grammar.specs.Decls.{Lines, SpellsLines}
 use Rattle.typed_unit.specs.Unit as u
 use Rattle.c_typing.specs.Typing.{typed_program}
-use Rattle.acsl_clauses.specs.Items.{contract_items, loop_items}
+use Rattle.acsl_clauses.specs.Items.{contract_items}
 use Rattle.acsl_typing.specs.Annotations.{Annotations, file_annotated}
 use Rattle.acsl_annotated.specs.Annotated.{file_expanded}
-use Rattle.acsl_same_meaning.specs.Spelled.{All, EachBinds, ItemBinds, IsSpelled, FileIsSpelled}
+use Rattle.acsl_well_typed.specs.Clauses.{All, ItemBinds}
+use Rattle.acsl_same_meaning.specs.Spelled.{IsSpelled, FileIsSpelled}
+use Rattle.acsl_binders.specs.Spelled.{BodySpelledBinds}
 use Rattle.acsl_same_meaning.specs.Laws.{MeanTheSame}
 
 -- ---- programs
-
-abbrev mutual
-  pub SpelledBinds : p.Stmt → Type 0
-  SpelledBinds (p.empty line) = Unit {0}
-  SpelledBinds (p.expr line a) = Unit {0}
-  SpelledBinds (p.block line body) = AllSpelled body
-  SpelledBinds (p.locals line vars) = Unit {0}
-  SpelledBinds (p.if_only line test a) = SpelledBinds a
-  SpelledBinds (p.if_else line test a b) = SpelledBinds a × SpelledBinds b
-  SpelledBinds (p.while_of line annot test body) = All ItemBinds (loop_items annot) × SpelledBinds body
-  SpelledBinds (p.do_of line annot body test) = All ItemBinds (loop_items annot) × SpelledBinds body
-  SpelledBinds (p.for_of line annot first test next body) = All ItemBinds (loop_items annot) × SpelledBinds first × SpelledBinds body
-  SpelledBinds (p.switch line a body) = AllSpelled body
-  SpelledBinds (p.case_of line a) = Unit {0}
-  SpelledBinds (p.default line) = Unit {0}
-  SpelledBinds (p.break line) = Unit {0}
-  SpelledBinds (p.continue line) = Unit {0}
-  SpelledBinds (p.return_of line a) = Unit {0}
-  SpelledBinds (p.assert line q) = EachBinds q
-
-  pub AllSpelled : p.Stmts → Type 0
-  AllSpelled p.stop = Unit {0}
-  AllSpelled (p.more x xs) = SpelledBinds x × AllSpelled xs
-
-abbrev pub BodyBinds : Option p.Stmt → Type 0
-BodyBinds None = Unit {0}
-BodyBinds (Some x) = SpelledBinds x
 
 abbrev pub DeclIsSpelled : d.Decl → Type 0
 DeclIsSpelled (d.struct_decl x) = Unit {0}
 DeclIsSpelled (d.enum_decl x) = Unit {0}
 DeclIsSpelled (d.typedef_decl x) = Unit {0}
 DeclIsSpelled (d.globals xs) = Unit {0}
-DeclIsSpelled (d.function f) = All ItemBinds (contract_items f.contract) × BodyBinds f.body
+DeclIsSpelled (d.function f) = All ItemBinds (contract_items f.contract) × BodySpelledBinds f.body
 DeclIsSpelled (d.logic_decl l) = IsSpelled l
 
 abbrev pub ProgramIsSpelled : d.Program → Type 0

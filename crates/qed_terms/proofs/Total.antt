@@ -1,7 +1,12 @@
 -- The order of trees is total, and answers `Equal` for one tree alone.
-use Rattle.std.proofs.Common.{◌≡◌, ℕ, true, false, Bool, ◌==◌, ℤ, List, [], ◌∷◌, map, get_or, Ordering, Less, Equal, Greater, nat_cmp, int_cmp, is_eq, refl, sym, ◌∙◌, ap}
+use Rattle.std.proofs.Common.{◌≡◌, ℕ, true, false, Bool, ◌&&◌, ◌==◌, ℤ, List, [], ◌∷◌, map, get_or, Ordering, Less, Equal, Greater, nat_cmp, int_cmp, is_eq, refl, sym, ◌∙◌, ap}
 use Rattle.std.specs.Ordering.{ordering_then, ordering_reverse}
-use Rattle.std.specs.Cmp.{IsTotalOrder}
+use Rattle.std.specs.Prelude.{nat_eq}
+use Rattle.std.specs.Ordering.{int_eq}
+use Rattle.std.specs.Str.{bytes_eq}
+use Rattle.std.specs.Cmp.{IsTotalOrder, first_so, second_so, unsigned_Decides, signed_Decides}
+use Rattle.std.specs.Cmp.Lexicographic.{slice_cmp}
+use Rattle.std.proofs.lemmas.Slice.Eq.{bytes_eq-Decides}
 use Rattle.std.proofs.lemmas.Cmp.{then_total, on_total, nat_cmp_total, int_cmp_total, nat_list_cmp_total, tied_itself}
 use Rattle.std.proofs.lemmas.Map.Lookups.{exact_unsigned, exact_signed, exact_bytes}
 use Rattle.wp_base.specs.declared.kinds.Kind.{Kind}
@@ -20,7 +25,7 @@ use Rattle.qed_terms.specs.declared.head.TermOp.TheVariants as op
 use Rattle.qed_terms.specs.declared.head.FormOp.TheVariants as form
 use Rattle.wp_base.specs.Blocks.{to_nat}
 use Rattle.qed_terms.specs.Tree.{Tree, node, Trees, stop, more}
-use Rattle.qed_terms.specs.Order.{rank, number_in, name_in, back_in, layout_back, shape_place, first_of, rest_of, front_cmp, back_cmp, tree_cmp, kids_cmp, same, OrderIsTotal}
+use Rattle.qed_terms.specs.Order.{rank, number_in, name_in, back_in, layout_back, shape_place, first_of, rest_of, front_cmp, back_cmp, same_head, HeadsAreExact, tree_cmp, kids_cmp, same, OrderIsTotal}
 
 -- ---- a head is known by its rank and by what stands before and after the kids
 
@@ -172,6 +177,41 @@ front_total = then_total (on_total rank nat_cmp_total) (then_total (on_total num
 
 back_total : IsTotalOrder back_cmp
 back_total = on_total back_in nat_list_cmp_total
+
+-- ---- heads that are the same
+
+same_back : (xs ys : List ℕ) → is_eq (slice_cmp nat_cmp xs ys) ≡ true → xs ≡ ys
+same_back xs ys k = go (slice_cmp nat_cmp xs ys) refl k
+  where
+    go : (o : Ordering) → slice_cmp nat_cmp xs ys ≡ o → is_eq o ≡ true → xs ≡ ys
+    go Less e q = absurd cc
+    go Equal e q = exact_bytes xs ys e
+    go Greater e q = absurd cc
+
+same_one : (g k : Head) → same_head g k ≡ true → g ≡ k
+same_one g k e =
+    let ranks = nat_eq (rank g) (rank k) in
+    let numbers = int_eq (number_in g) (number_in k) in
+    let names = bytes_eq (name_in g) (name_in k) in
+    let backs = is_eq (back_cmp g k) in
+    let a = first_so ((ranks && numbers) && names) backs e in
+    let o = same_back (back_in g) (back_in k) (second_so ((ranks && numbers) && names) backs e) in
+    let b = first_so (ranks && numbers) names a in
+    let x = (bytes_eq-Decides (name_in g) (name_in k)).0 (second_so (ranks && numbers) names a) in
+    let r = (unsigned_Decides (rank g) (rank k)).0 (first_so ranks numbers b) in
+    let z = (signed_Decides (number_in g) (number_in k)).0 (second_so ranks numbers b) in
+    sym (head_back g) ∙ (λ i. head_from (r i) (z i) (x i) (o i)) ∙ head_back k
+
+same_as_itself : (g : Head) → same_head g g ≡ true
+same_as_itself g =
+    let r = (unsigned_Decides (rank g) (rank g)).1 refl in
+    let z = (signed_Decides (number_in g) (number_in g)).1 refl in
+    let x = (bytes_eq-Decides (name_in g) (name_in g)).1 refl in
+    let o = ap is_eq (tied_itself back_total g) in
+    λ i. ((r i && z i) && x i) && o i
+
+pub heads_are_exact : HeadsAreExact
+heads_are_exact g k = (same_one g k, λ e. ap (same_head g) (sym e) ∙ same_as_itself g)
 
 -- ---- exact
 

@@ -1,9 +1,10 @@
 -- The order of terms: numbers by value, names by their bytes, then heads in their order, then kids from the left, fewer kids first. What
 -- stands before, between and after the kids in the text of a term (a kind, a name, the shape of a region, a layout) counts at its place.
-use Rattle.std.specs.Prelude.{ℕ, Bool, true, false, ℤ, pos, List, [], ◌∷◌, map}
+use Rattle.std.specs.Prelude.{ℕ, nat_eq, Bool, true, false, IsTrue, ◌↔◌, ℤ, pos, List, [], ◌∷◌, map}
 use Rattle.std.specs.declared.cmp.Ordering.{Ordering}
 use Rattle.std.specs.declared.cmp.Ordering.TheVariants.{Less, Equal, Greater}
-use Rattle.std.specs.Ordering.{ordering_then, nat_cmp, int_cmp, is_eq}
+use Rattle.std.specs.Ordering.{ordering_then, nat_cmp, int_cmp, int_eq, is_eq, on, eq_of_both, eq_by_cmp}
+use Rattle.std.specs.Str.{bytes_eq}
 use Rattle.std.specs.Cmp.{IsTotalOrder}
 use Rattle.std.specs.Cmp.Lexicographic.{slice_cmp}
 use Rattle.std.specs.Prelude.{◌≡◌}
@@ -159,6 +160,14 @@ front_cmp g k = ordering_then (nat_cmp (rank g) (rank k)) (ordering_then (int_cm
 
 abbrev pub back_cmp : Head → Head → Ordering
 back_cmp g k = slice_cmp nat_cmp (back_in g) (back_in k)
+
+-- whether two heads are the same, by what stands before and after the kids
+abbrev pub same_head : Head → Head → Bool
+same_head = eq_of_both (eq_of_both (eq_of_both (on rank nat_eq) (on number_in int_eq)) (on name_in bytes_eq)) (eq_by_cmp back_cmp)
+
+-- two heads that are the same are one head
+abbrev pub HeadsAreExact : Type 0
+HeadsAreExact = (g k : Head) → IsTrue (same_head g k) ↔ (g ≡ k)
 
 abbrev pub first_of : List ℕ → ℕ
 first_of [] = 0

@@ -2,7 +2,7 @@
 ghost use Rattle.qed_terms.specs.Free.{MeaningOfFreeNames};
 ghost use Rattle.qed_terms.specs.Fresh.{FreshNamesAreNew, FreshNamesDiffer};
 ghost use Rattle.qed_terms.specs.Operators.{DivisionTruncates};
-ghost use Rattle.qed_terms.specs.Order.{OrderIsTotal};
+ghost use Rattle.qed_terms.specs.Order.{HeadsAreExact, OrderIsTotal};
 
 /// Division rounds towards 0, and the remainder has the sign of the dividend (C11 6.5.5p6).
 #[tactic(auto, using(crate::proofs::Division::division_truncates))]
@@ -32,4 +32,9 @@ pub fn fresh_names_differ()
 #[tactic(auto, using(crate::proofs::Freshness::fresh_names_are_new))]
 pub fn fresh_names_are_new()
     ensures { FreshNamesAreNew }
+{}
+
+/// Two heads are equal exactly where they are one head.
+pub fn heads_are_exact()
+    ensures { HeadsAreExact }
 {}

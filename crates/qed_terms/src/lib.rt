@@ -6,6 +6,7 @@ mod compare;
 mod copies;
 mod fresh;
 mod head;
+mod heads;
 mod intern;
 mod keys;
 mod laws;
@@ -21,8 +22,8 @@ pub use fresh::Fresh;
 pub use head::{FormOp, Head, Shape, Sort, TermOp};
 pub use intern::{intern_formula, intern_term};
 pub use laws::{
-    division_truncates, fresh_names_are_new, fresh_names_differ, meaning_of_free_names,
-    order_is_total,
+    division_truncates, fresh_names_are_new, fresh_names_differ, heads_are_exact,
+    meaning_of_free_names, order_is_total,
 };
 pub use node::Node;
 pub use setting::{LogicFn, Setting};

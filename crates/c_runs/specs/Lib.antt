@@ -1,0 +1,14 @@
+pub mod Program
+pub mod States
+pub mod Operators
+pub mod Objects
+pub mod Values
+pub mod Claims
+pub mod Scopes
+pub mod Calls
+pub mod Effects
+pub mod Run
+pub mod Entry
+pub mod Reach
+pub mod Allowed
+pub mod Laws

@@ -1,0 +1,6 @@
+//! Floor 5, goals: what a program of C with annotations does, in so many turns. Definitions and laws.
+#![tactic(auto)]
+
+mod laws;
+
+pub use laws::operators_are_those_of_constants;

@@ -1,0 +1,3 @@
+mod Settling
+mod Operators
+mod Checking

@@ -1,0 +1,4 @@
+pub mod Forms
+pub mod Programs
+pub mod Annotations
+pub mod Laws

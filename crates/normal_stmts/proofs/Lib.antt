@@ -1,0 +1,16 @@
+pub mod CoreValues
+pub mod Pureness
+pub mod Relations
+pub mod Unchecked
+pub mod Plans
+pub mod Forks
+pub mod Pure
+pub mod Updates
+pub mod Unaffected
+pub mod Effects
+pub mod All
+pub mod Endings
+pub mod Performed
+pub mod Switches
+pub mod Statements
+pub mod Outcomes

@@ -1,7 +1,9 @@
 -- What changes the state: assignments, increments, values of declared variables (C11 6.5.2.4, 6.5.3.1, 6.5.16, 6.7.9).
-use Rattle.std.specs.Prelude.{ℕ, Bool, true, false, if◌then◌else◌, ℤ, pos, List, [], ◌∷◌, Option, Some, None, slice_get}
+use Rattle.std.specs.Prelude.{ℕ, Bool, true, false, if◌then◌else◌, ℤ, pos, negsuc, List, [], ◌∷◌, Option, Some, None, slice_get}
 use Rattle.wp_base.specs.declared.kinds.Kind.{Kind}
+use Rattle.std.specs.Option.{unwrap_or}
 use Rattle.wp_base.specs.declared.kinds.CellKind.{CellKind}
+use Rattle.wp_base.specs.Blocks.{Table, block_at, block_cells}
 use Rattle.typed_prog.specs.declared.types.CoreType.{CoreType}
 use Rattle.typed_prog.specs.declared.operators.Path.{Path}
 use Rattle.typed_prog.specs.declared.operators.Op.TheVariants as op
@@ -51,8 +53,17 @@ abbrev pub granted : Bool → (line : ℕ) → World → Written
 granted true l w = wrote w
 granted false l w = unwritten (failed assigns l)
 
+-- the kind of the cell that stands at an address; where none does, that of the object
+abbrev pub cell_in : List CellKind → (offset : ℤ) → Option CellKind
+cell_in cells (pos n) = slice_get cells n
+cell_in cells (negsuc n) = None
+
+abbrev pub kind_there : Table → CellKind → (at : Value) → CellKind
+kind_there t k a = unwrap_or (cell_in (block_cells (block_at t (block_of a))) (offset_of a)) k
+
 abbrev pub cell_written : Here → (line : ℕ) → CellKind → World → (at : Value) → Value → Written
-cell_written here l k w a v = granted (may_change here.granted k (block_of a) (offset_of a)) l (with_memory (stored_in (block_of a) (offset_of a) v w.memory) w)
+cell_written here l k w a v =
+    granted (may_change here.granted (kind_there w.memory.blocks k a) (block_of a) (offset_of a)) l (with_memory (stored_in (block_of a) (offset_of a) v w.memory) w)
 
 -- at an address that was come to
 abbrev pub written_at : Here → (line : ℕ) → CellKind → World → Val → Value → Written

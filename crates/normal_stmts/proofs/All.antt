@@ -9,18 +9,16 @@ use Rattle.typed_prog.specs.declared.operators.UpdateForm.TheVariants as form
 use Rattle.typed_prog.specs.declared.operators.Path.{Path}
 use Rattle.typed_prog.specs.declared.operators.Change.{Change}
 use Rattle.typed_prog.specs.Tree as tree
-use Rattle.acsl_truth.specs.States.{Value}
 use Rattle.c_runs.specs.Program.{Facts, Variable, Program}
 use Rattle.c_runs.specs.States.{World, Here}
-use Rattle.c_runs.specs.Operators.{is}
 use Rattle.c_runs.specs.Values.{has_effect, Temps, Vals, values}
-use Rattle.c_runs.specs.Calls.{Eval, Act, bind, of_val, nothing, nought}
+use Rattle.c_runs.specs.Calls.{Eval, Act, bind, nothing, nought}
 use Rattle.c_runs.specs.Run.{no_temps, logic_act, choice_act, first_if, Acts, same_acts, updating, whole, plain_acts, update_act, effect_act, node_acts, acts, first_of}
-use Rattle.core_runs.specs.Core.{set, call, temporary, Cores, join, one}
+use Rattle.core_runs.specs.Core.{Cores, join, one}
 use Rattle.core_runs.specs.Run.{CoreWorld, Ending, then_do}
 use Rattle.core_runs.specs.Run as core
-use Rattle.normal_stmts.specs.Plans.{Made, Sent, Plan, Plans, jump, leafy, logic_made, logic_plan, choice_made, no_value, pure, pures, operands, nothing_made, made_if, whole_made, plain_plans, update_made, called_sent, sent_value, sending, plans_of, effect_plan, node_plans, plans, first_plan}
-use Rattle.normal_stmts.proofs.Relations.{pair, Moved, moved_none, Gives, early, there, Fixed, fixed_early, fixed, Puts, gives_of_sure, sure_of_fixed, Stays, PlanOk, FirstOk, BothOk}
+use Rattle.normal_stmts.specs.Plans.{Made, Sent, Plan, Plans, jump, leafy, logic_made, choice_made, no_value, pure, operands, nothing_made, made_if, whole_made, plain_plans, update_made, called_sent, sent_value, sending, plans_of, effect_plan, node_plans, plans, first_plan}
+use Rattle.normal_stmts.proofs.Relations.{pair, moved_none, Gives, early, there, Fixed, fixed_early, fixed, Puts, gives_of_sure, sure_of_fixed, PlanOk, FirstOk, BothOk}
 use Rattle.normal_stmts.proofs.Plans.{ex, join_ex, put_fixed, leaf_tested, leafy_ok, logic_ok, logic_fixed}
 use Rattle.normal_stmts.proofs.Forks.{gives_after, choice_ok, choice_fixed}
 use Rattle.normal_stmts.proofs.Pure.{pure_ok, pures_grow}

@@ -11,10 +11,10 @@ use Rattle.typed_prog.specs.declared.operators.Effect.{Effect}
 use Rattle.typed_prog.specs.declared.operators.Effect.TheVariants as effect
 use Rattle.typed_prog.specs.Tree as t
 use Rattle.c_runs.specs.Program.{Variable}
-use Rattle.c_runs.specs.Values.{has_effect, have_effect, decides, agree}
+use Rattle.c_runs.specs.Values.{has_effect, decides, agree}
 use Rattle.c_runs.specs.Effects.{changed}
 use Rattle.c_runs.specs.Run.{first_operand, other_operands, old_value, updating}
-use Rattle.core_runs.specs.Core.{temporary, Core, set, store, call, branch, around, exit, Cores, end, then_, join, one}
+use Rattle.core_runs.specs.Core.{Core, set, store, branch, around, exit, Cores, end, then_, join, one}
 use Rattle.rte_checks.specs.Checks.{has_checks, is_pure, are_pure}
 use Rattle.normal_stmts.specs.Plans.{constant_of, no_value, Made, Tests, Sent, Mades, Plan, kept, save, after, sent_made, jump, leaf, leafy, straight, crossed, logic_test, flag, logic_made, logic_plan, jumps_, tests_, condition, next_of, fork, into, choice_made, need, put_before, op_made, save_if, pure, pures, Plans, nothing_made, made_if, first_value, stored_made, called_sent, sent_value, sending, whole_made, operands, saved_operands, assigned_made, changed_made, postfix_made, update_made, effect_plan, plans, first_plan, planned}
 use Rattle.normal_stmts.specs.Laws.{is_core, are_core}

@@ -1,20 +1,19 @@
 -- Assignments, updates and calls whose value is wanted.
-use Rattle.std.proofs.Common.{◌≡◌, ℕ, suc, ◌≤◌, Bool, true, false, List, [], ◌∷◌, refl, sym, ap, ◌∙◌, subst, arith}
-use Rattle.std.proofs.lemmas.Bool.{false≢true}
+use Rattle.std.proofs.Common.{◌≡◌, ℕ, suc, Bool, true, false, List, [], refl, sym, ap, ◌∙◌, subst, arith}
 use Rattle.typed_prog.specs.declared.types.CoreType.{CoreType}
 use Rattle.typed_prog.specs.declared.operators.Path.{Path}
 use Rattle.typed_prog.specs.declared.operators.Change.{Change}
 use Rattle.typed_prog.specs.Tree as tree
 use Rattle.acsl_truth.specs.States.{Value}
 use Rattle.c_runs.specs.Program.{Facts, Variable, Program}
-use Rattle.c_runs.specs.States.{World, Here, at}
-use Rattle.c_runs.specs.Operators.{Val, is, wrong, then_val}
+use Rattle.c_runs.specs.States.{World, Here}
+use Rattle.c_runs.specs.Operators.{Val, is, then_val}
 use Rattle.c_runs.specs.Values.{Temps, Vals, are, wrongs, push_val, value, values}
-use Rattle.c_runs.specs.Claims.{Stop, undefined}
+use Rattle.c_runs.specs.Claims.{undefined}
 use Rattle.c_runs.specs.Calls.{Eval, gives, stops, Act, bind, of_val, nought}
-use Rattle.c_runs.specs.Effects.{changed, changed_value, Written, wrote, unwritten, write, wrote_act, assigned, assign_act}
+use Rattle.c_runs.specs.Effects.{changed, changed_value, Written, wrote, unwritten, write, wrote_act, assign_act}
 use Rattle.c_runs.specs.Run.{no_temps, first_operand, other_operands, old_value, giving, postfix_act}
-use Rattle.core_runs.specs.Core.{temporary, store, call, Cores, end, then_, join, one}
+use Rattle.core_runs.specs.Core.{temporary, store, call, Cores, end, join, one}
 use Rattle.core_runs.specs.Run.{CoreWorld, Ending, goes_on, stopped, then_do}
 use Rattle.core_runs.specs.Run as core
 use Rattle.normal_stmts.specs.Plans.{Made, Mades, save, save_if, put_before, need, pure, pures, no_value, operands, assigned_made, changed_made, postfix_made, called_sent}

@@ -5,15 +5,15 @@ use Rattle.typed_prog.specs.Tree as tree
 use Rattle.acsl_truth.specs.States.{Value}
 use Rattle.c_runs.specs.Program.{Facts, Variable, Program}
 use Rattle.c_runs.specs.States.{World, Here, at, is_nonzero}
-use Rattle.c_runs.specs.Operators.{Val, is, wrong}
+use Rattle.c_runs.specs.Operators.{is, wrong}
 use Rattle.c_runs.specs.Values.{Temps}
 use Rattle.c_runs.specs.Claims.{Stop, undefined}
 use Rattle.c_runs.specs.Calls.{Eval, gives, stops, Act, bind}
 use Rattle.c_runs.specs.Run.{choice_act}
-use Rattle.core_runs.specs.Core.{Core, branch, exit, Cores, end, join, one}
+use Rattle.core_runs.specs.Core.{branch, exit, Cores, end, join, one}
 use Rattle.core_runs.specs.Run.{CoreWorld, Ending, goes_on, exits, stopped, then_do, block_end}
 use Rattle.core_runs.specs.Run as core
-use Rattle.normal_stmts.specs.Plans.{Made, Plan, temp_of, leafy, jumps_, tests_, condition, next_of, fork, into, choice_made}
+use Rattle.normal_stmts.specs.Plans.{Plan, temp_of, leafy, jumps_, tests_, condition, next_of, fork, into, choice_made}
 use Rattle.normal_stmts.proofs.Relations.{pair, keeps_all, at_same, at_other, Moved, moved_trans, moved_skip, Gives, early, there, Fixed, fixed_early, fixed, Puts, puts_early, puts, Tested, tested_early, passes, leaves, gives_of_sure, sure_of_fixed, Stays, stays_later, PlanOk}
 use Rattle.normal_stmts.proofs.Plans.{then_on, ex, join_ex, leafy_ok}
 

@@ -1,13 +1,13 @@
 -- Whole runs.
-use Rattle.std.proofs.Common.{◌≡◌, ℕ, zero, suc, List, Option, Some, None, refl, ap, ◌∙◌}
+use Rattle.std.proofs.Common.{◌≡◌, ℕ, zero, suc, List, Option, Some, None, refl, ap}
 use Rattle.std.specs.Option.{option_map}
 use Rattle.acsl_truth.specs.States.{Value}
 use Rattle.c_runs.specs.Program.{Stmts, Function, Facts, Program}
 use Rattle.c_runs.specs.States.{World, Here}
 use Rattle.c_runs.specs.Values.{Vals, are, wrongs}
-use Rattle.c_runs.specs.Claims.{Stop, spent, at_entry, required, entered_well, measure_of, decreased, here_in}
+use Rattle.c_runs.specs.Claims.{spent, at_entry, required, entered_well, measure_of, decreased, here_in}
 use Rattle.c_runs.specs.Scopes.{arrived}
-use Rattle.c_runs.specs.Calls.{Eval, Act, unless, turn_by, back_in, keeps_promises, Runner, entered_by, found}
+use Rattle.c_runs.specs.Calls.{Act, unless, turn_by, back_in, keeps_promises, Runner, entered_by, found}
 use Rattle.c_runs.specs.Run as sp
 use Rattle.core_runs.specs.Core.{Cores}
 use Rattle.core_runs.specs.Run.{Ending, begun}

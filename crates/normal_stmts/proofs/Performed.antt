@@ -1,5 +1,5 @@
 -- Expressions that are done for their effect: assignments, updates, calls, and values of declared variables.
-use Rattle.std.proofs.Common.{◌≡◌, ℕ, Bool, true, false, not, ◌||◌, if◌then◌else◌, List, [], ◌∷◌, refl, sym, ap, ◌∙◌, subst}
+use Rattle.std.proofs.Common.{◌≡◌, ℕ, Bool, true, false, ◌||◌, if◌then◌else◌, List, refl, sym, ap, ◌∙◌, subst}
 use Rattle.std.proofs.lemmas.Bool.{false≢true}
 use Rattle.typed_prog.specs.declared.types.CoreType.{CoreType}
 use Rattle.typed_prog.specs.declared.operators.Path.{Path}
@@ -7,31 +7,30 @@ use Rattle.typed_prog.specs.declared.operators.Change.{Change}
 use Rattle.typed_prog.specs.declared.operators.UpdateForm.{UpdateForm}
 use Rattle.typed_prog.specs.declared.operators.UpdateForm.TheVariants as form
 use Rattle.typed_prog.specs.declared.operators.Effect.TheVariants as effect
-use Rattle.typed_prog.specs.Types.{of_kind}
 use Rattle.typed_prog.specs.Tree as t
 use Rattle.acsl_truth.specs.States.{Value}
-use Rattle.c_runs.specs.Program.{Variable, Facts, Program}
+use Rattle.c_runs.specs.Program.{Variable, Program}
 use Rattle.c_runs.specs.States.{World, Here}
-use Rattle.c_runs.specs.Operators.{Val, is, wrong, then_val}
-use Rattle.c_runs.specs.Values.{has_effect, have_effect, node_value, value, values, Temps, Vals, are, wrongs, push_val, with_vals, applied}
-use Rattle.c_runs.specs.Claims.{Stop, undefined}
+use Rattle.c_runs.specs.Operators.{is, wrong}
+use Rattle.c_runs.specs.Values.{have_effect, values, Temps, Vals, are, wrongs, push_val}
+use Rattle.c_runs.specs.Claims.{undefined}
 use Rattle.c_runs.specs.Calls.{Eval, gives, stops, Act, bind, nought}
-use Rattle.c_runs.specs.Effects.{changed, changed_value, Written, wrote, unwritten, write, wrote_act, assigned, assign_act, initial_act}
+use Rattle.c_runs.specs.Effects.{Written, wrote, unwritten, write, wrote_act, assign_act, initial_act}
 use Rattle.c_runs.specs.Run.{no_temps, first_operand, other_operands, old_value, updating, with_act, with_acts, giving, update_act, postfix_act, first_of, run}
 use Rattle.c_runs.specs.Run as sp
 use Rattle.core_runs.specs.Core.{Target, nowhere, place, variable, start, call, store, Cores, join, one}
 use Rattle.core_runs.specs.Run.{CoreWorld, Ending, goes_on, exits, returns, stopped, then_do, with_eval}
 use Rattle.core_runs.specs.Run as core
 use Rattle.rte_checks.specs.Checks.{has_checks}
-use Rattle.normal_stmts.specs.Plans.{Made, Mades, no_value, needs, need, save, operands, planned, first_plan, pure, pures}
-use Rattle.normal_stmts.specs.Normal.{is_temp, is_settled, save_unless, dropped, called_into, plain_store, called_to, stored, effect_of, started}
+use Rattle.normal_stmts.specs.Plans.{Made, Mades, no_value, need, operands, planned, first_plan, pures}
+use Rattle.normal_stmts.specs.Normal.{is_temp, is_settled, save_unless, dropped, called_into, plain_store, called_to, effect_of, started}
 use Rattle.normal_stmts.proofs.Relations.{pair, keeps_all, Gives, early, there, Sure, sure_early, sure, Fixed, fixed_early, fixed, sure_of_fixed, Lists, lists_early, lists}
 use Rattle.normal_stmts.proofs.Plans.{join_ex, join_join, one_ex, saved, kept_sure}
 use Rattle.normal_stmts.proofs.Pure.{pures_ok}
 use Rattle.normal_stmts.proofs.Unaffected.{zero_stays, quiet_values}
 use Rattle.normal_stmts.proofs.All.{plans_ok, firsts_ok}
 use Rattle.normal_stmts.proofs.Updates.{postfix_stores}
-use Rattle.normal_stmts.proofs.Endings.{Like, halt, on, Runs, runs_on, runs_halt, runs_as, runs_like, runs_bound, bind_gives, bind_same}
+use Rattle.normal_stmts.proofs.Endings.{Like, halt, on, Runs, runs_on, runs_halt, runs_as, runs_bound, bind_gives, bind_same}
 
 temp_sure : (xs : List Variable) (e : t.Value) → is_temp e ≡ true → has_checks xs e ≡ false
 temp_sure xs (t.typed (t.temporary n) type l) h = refl

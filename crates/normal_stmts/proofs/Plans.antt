@@ -1,24 +1,24 @@
 -- Plans of values and of conditions keep the evaluation of what they are made of, whatever core statements are run with.
-use Rattle.std.proofs.Common.{◌≡◌, ℕ, suc, ◌<◌, ◌≤◌, Bool, true, false, not, ◌&&◌, ◌||◌, if◌then◌else◌, List, refl, sym, ap, ◌∙◌, subst, arith}
+use Rattle.std.proofs.Common.{◌≡◌, ℕ, suc, ◌≤◌, Bool, true, false, not, ◌&&◌, if◌then◌else◌, List, refl, sym, ap, ◌∙◌, subst, arith}
 use Rattle.std.proofs.lemmas.Bool.{false≢true}
 use Rattle.std.specs.Prelude.{pos}
 use Rattle.typed_prog.specs.declared.types.CoreType.{CoreType}
 use Rattle.typed_prog.specs.declared.operators.Connective.{Connective}
 use Rattle.typed_prog.specs.Tree as tree
 use Rattle.acsl_truth.specs.States.{Value, number}
-use Rattle.c_runs.specs.Program.{Facts, Variable, Program}
+use Rattle.c_runs.specs.Program.{Variable, Program}
 use Rattle.c_runs.specs.States.{World, Here, at, is_nonzero}
-use Rattle.c_runs.specs.Operators.{Undefined, Val, is, wrong, truth_number}
+use Rattle.c_runs.specs.Operators.{Val, is, wrong, truth_number}
 use Rattle.c_runs.specs.Values.{agree, decides, value, Temps}
-use Rattle.c_runs.specs.Claims.{Stop, undefined}
+use Rattle.c_runs.specs.Claims.{undefined}
 use Rattle.c_runs.specs.Calls.{Eval, gives, stops, Act, bind, of_val, nought}
 use Rattle.c_runs.specs.Run.{logic_act}
-use Rattle.core_runs.specs.Core.{Core, set, branch, exit, Cores, end, then_, join, one}
+use Rattle.core_runs.specs.Core.{Core, set, exit, Cores, end, then_, join, one}
 use Rattle.core_runs.specs.Run.{CoreWorld, Ending, goes_on, exits, returns, stopped, then_do, with_val, block_end}
 use Rattle.core_runs.specs.Run as core
 use Rattle.rte_checks.specs.Checks.{has_checks}
-use Rattle.normal_stmts.specs.Plans.{Made, Tests, Sent, Plan, temp_of, temp_for, constant_of, save, save_if, sent_made, jump, leafy, straight, crossed, logic_test, flag, logic_made, logic_plan}
-use Rattle.normal_stmts.proofs.Relations.{pair, Keeps, keeps_all, at_same, at_other, Moved, moved_trans, moved_set, Gives, early, there, Sure, sure_early, sure, Fixed, fixed_early, fixed, Puts, puts_early, puts, Tested, tested_early, passes, leaves, gives_of_sure, sure_of_fixed, Stays, stays_later, PlanOk}
+use Rattle.normal_stmts.specs.Plans.{Made, Tests, Plan, temp_of, temp_for, constant_of, save, save_if, jump, leafy, straight, crossed, logic_test, flag, logic_made, logic_plan}
+use Rattle.normal_stmts.proofs.Relations.{pair, keeps_all, at_same, Moved, moved_trans, moved_set, Gives, early, there, Sure, sure_early, sure, Fixed, fixed_early, fixed, Puts, puts_early, puts, Tested, tested_early, passes, leaves, gives_of_sure, sure_of_fixed, Stays, stays_later, PlanOk}
 use Rattle.normal_stmts.proofs.Unchecked.{no_checks}
 
 -- ---- endings

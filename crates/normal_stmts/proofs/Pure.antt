@@ -1,7 +1,6 @@
 -- An expression whose effect is done.
 use Rattle.std.proofs.Common.{◌≡◌, ℕ, ◌≤◌, Bool, true, false, not, ◌||◌, if◌then◌else◌, List, [], refl, sym, ap, ◌∙◌, subst, arith}
 use Rattle.std.proofs.lemmas.Bool.{false≢true}
-use Rattle.std.specs.Prelude.{pos}
 use Rattle.typed_prog.specs.declared.types.CoreType.{CoreType}
 use Rattle.typed_prog.specs.declared.operators.Connective.{Connective}
 use Rattle.typed_prog.specs.declared.operators.Op.{Op}
@@ -10,15 +9,15 @@ use Rattle.acsl_truth.specs.States.{Value, number, null}
 use Rattle.c_runs.specs.Program.{Facts, Variable, Program}
 use Rattle.c_runs.specs.States.{World, Here, is_nonzero}
 use Rattle.c_runs.specs.Operators.{Undefined, init, Val, is, wrong, then_val, truth_number}
-use Rattle.c_runs.specs.Values.{has_effect, have_effect, agree, decides, logic_of, choice_of, applied, Temps, Vals, are, wrongs, push_val, with_vals, node_value, value, values}
-use Rattle.c_runs.specs.Claims.{Stop, spent, undefined, failed}
+use Rattle.c_runs.specs.Values.{has_effect, agree, decides, logic_of, choice_of, applied, Temps, Vals, are, wrongs, push_val, with_vals, node_value, value, values}
+use Rattle.c_runs.specs.Claims.{Stop, spent, undefined}
 use Rattle.c_runs.specs.Calls.{Eval, gives, stops, Act, bind, of_val, nought}
 use Rattle.c_runs.specs.Run.{no_temps, logic_act, choice_act}
-use Rattle.core_runs.specs.Core.{Cores, end, join}
+use Rattle.core_runs.specs.Core.{Cores}
 use Rattle.core_runs.specs.Run.{CoreWorld, Ending, goes_on, stopped, then_do}
 use Rattle.core_runs.specs.Run as core
 use Rattle.normal_stmts.specs.Plans.{Made, Mades, kept, save_if, leafy, logic_plan, choice_made, put_before, op_made, no_value, needs, need, node_needs, pure, pure_node, pures}
-use Rattle.normal_stmts.proofs.Relations.{pair, Keeps, keeps_all, keeps_trans, Moved, moved_none, moved_trans, Gives, early, there, Sure, sure_early, sure, Fixed, fixed_early, fixed, Lists, lists_early, lists, Stays, stays_later, Quiet, PlanOk}
+use Rattle.normal_stmts.proofs.Relations.{pair, Keeps, keeps_trans, Moved, moved_none, moved_trans, Gives, early, there, Sure, sure_early, sure, Fixed, fixed_early, fixed, Lists, lists_early, lists, Stays, stays_later, Quiet, PlanOk}
 use Rattle.normal_stmts.proofs.Unchecked.{or_parts}
 use Rattle.normal_stmts.proofs.Plans.{ex, join_ex, save_if_sure, save_grows, leafy_ok, plan_as, logic_ok}
 use Rattle.normal_stmts.proofs.Forks.{choice_ok}

@@ -1,5 +1,5 @@
 -- Each statement that is made is a core statement.
-use Rattle.std.proofs.Common.{◌≡◌, ℕ, suc, ℤ, Bool, true, false, ◌&&◌, ◌||◌, if◌then◌else◌, List, Option, Some, None, refl}
+use Rattle.std.proofs.Common.{◌≡◌, ℕ, suc, ℤ, Bool, true, false, ◌||◌, if◌then◌else◌, List, Option, Some, None, refl}
 use Rattle.typed_prog.specs.declared.types.CoreType.{CoreType}
 use Rattle.typed_prog.specs.declared.operators.Path.{Path}
 use Rattle.typed_prog.specs.declared.operators.Effect.TheVariants as effect
@@ -9,10 +9,10 @@ use Rattle.c_runs.specs.Program.{Stmt, evaluate, block, initial, choose, loop, s
 use Rattle.c_runs.specs.Values.{have_effect}
 use Rattle.c_runs.specs.Run.{updating, is_case}
 use Rattle.core_runs.specs.Core.{Target, nowhere, place, variable, start, call, store, branch, repeat, around, exit, give, scope, Cores, end, then_, join, one}
-use Rattle.rte_checks.specs.Checks.{is_pure, is_pure_node, are_pure}
-use Rattle.normal_stmts.specs.Plans.{Made, Mades, save, operands, first_plan, planned, condition, next_of, no_value, pures, need}
+use Rattle.rte_checks.specs.Checks.{is_pure, are_pure}
+use Rattle.normal_stmts.specs.Plans.{Made, Mades, operands, first_plan, planned, condition, next_of, no_value, pures, need}
 use Rattle.normal_stmts.specs.Normal.{Did, is_temp, is_settled, save_unless, dropped, called_into, plain_store, called_to, stored, effect_of, started, loop_test, loop_step, given, is_label, index_of, whole_switch, close, truth_of, label_test, dispatch, up, loop_body, stmt, stmts, groups}
-use Rattle.normal_stmts.specs.Laws.{is_core_target, is_core, are_core, AllCore}
+use Rattle.normal_stmts.specs.Laws.{is_core_target, are_core, AllCore}
 use Rattle.normal_stmts.proofs.CoreValues.{both_true, join_core, one_core, two_core, MadeCore, MadesCore, save_core, fork_core, pures_core, operands_core, plans_core, first_core, planned_core}
 
 abbrev DidCore : Did → Type 0

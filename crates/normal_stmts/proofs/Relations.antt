@@ -7,13 +7,13 @@ use Rattle.acsl_truth.specs.States.{Value}
 use Rattle.c_runs.specs.Program.{Facts, Variable}
 use Rattle.c_runs.specs.States.{World, at, is_nonzero}
 use Rattle.c_runs.specs.Operators.{Undefined, Val, is}
-use Rattle.c_runs.specs.Values.{agree, value, values, Temps, Vals, are, wrongs}
+use Rattle.c_runs.specs.Values.{agree, value, values, Temps, Vals, wrongs}
 use Rattle.c_runs.specs.Claims.{Stop, undefined}
 use Rattle.c_runs.specs.Calls.{Eval, gives, stops, Act, of_val, nought}
 use Rattle.c_runs.specs.Run.{Acts}
 use Rattle.core_runs.specs.Core.{Cores, end, join, one}
 use Rattle.core_runs.specs.Run.{CoreWorld, Ending, goes_on, exits, stopped}
-use Rattle.normal_stmts.specs.Plans.{Made, Mades, Plan, Plans}
+use Rattle.normal_stmts.specs.Plans.{Made, Plan, Plans}
 
 abbrev pub pair : World → Temps → CoreWorld
 pair w tm = record { world = w; temps = tm }

@@ -1,25 +1,24 @@
 -- Core statements run beside the spelled ones.
-use Rattle.std.proofs.Common.{List, ◌≡◌, ℕ, zero, suc, ℤ, Bool, true, false, if◌then◌else◌, Option, Some, None, refl, sym}
+use Rattle.std.proofs.Common.{List, ◌≡◌, ℕ, ℤ, true, false, if◌then◌else◌, Option, Some, None, refl, sym}
 use Rattle.typed_prog.specs.Tree as t
-use Rattle.acsl_truth.specs.States.{Value, number_of}
 use Rattle.c_runs.specs.Program.{Loop, Stmt, evaluate, block, initial, choose, loop, switch, case_of, default, break, continue, return_of, assert, Stmts, stop, more, Variable, Function, Program}
 use Rattle.c_runs.specs.States.{World, Here, is_nonzero}
-use Rattle.c_runs.specs.Operators.{Val, is, wrong}
+use Rattle.c_runs.specs.Operators.{is, wrong}
 use Rattle.c_runs.specs.Values.{Temps, Vals}
 use Rattle.c_runs.specs.Claims as claims
 use Rattle.c_runs.specs.Claims.{Stop, undefined, unless_true, holds, in_body, measure_of, at_head, in_loop}
 use Rattle.c_runs.specs.Scopes.{entered}
-use Rattle.c_runs.specs.Calls.{Eval, gives, stops, nought}
+use Rattle.c_runs.specs.Calls.{Eval, nought}
 use Rattle.c_runs.specs.Run.{no_temps, run, label_of}
 use Rattle.c_runs.specs.Run as sp
-use Rattle.core_runs.specs.Core.{repeat, around, give, claim, scope, Cores, end, then_, join, one}
+use Rattle.core_runs.specs.Core.{repeat, around, give, claim, scope, Cores, then_, join, one}
 use Rattle.core_runs.specs.Run.{CoreWorld, Ending, goes_on, exits, returns, stopped, then_do, block_end, begun}
 use Rattle.core_runs.specs.Run as core
 use Rattle.normal_stmts.specs.Plans.{Made, planned, condition, next_of}
-use Rattle.normal_stmts.specs.Normal.{is_settled, save_unless, loop_test, loop_step, given, up, loop_body, dispatch, stmt, stmts, groups, normal_function, normal}
+use Rattle.normal_stmts.specs.Normal.{is_settled, save_unless, loop_test, loop_step, up, loop_body, dispatch, stmt, stmts, groups, normal_function, normal}
 use Rattle.normal_stmts.proofs.Relations.{pair, keeps_all, Gives, early, there}
 use Rattle.normal_stmts.proofs.Plans.{then_then, join_ex, one_ex}
-use Rattle.normal_stmts.proofs.Forks.{Ways, Forked, fork_early, forked, Passes, fork_ok}
+use Rattle.normal_stmts.proofs.Forks.{Ways, Forked, fork_early, forked, fork_ok}
 use Rattle.normal_stmts.proofs.All.{plans_ok}
 use Rattle.normal_stmts.proofs.Unaffected.{zero_stays}
 use Rattle.normal_stmts.proofs.Endings.{Like, on, out, once_more, back, halt, unless_like, scope_like, block_like, blocks_like, Round, round_like, unless_round, turn_round, test_round, body_round, runs_like, run_round}

@@ -2,12 +2,11 @@
 use Rattle.std.proofs.Common.{List, ◌≡◌, ℕ, zero, suc, ℤ, pos, negsuc, ◌-ℤ◌, Bool, true, false, ◌||◌, if◌then◌else◌, refl, sym, ap, ◌∙◌, subst, arith}
 use Rattle.std.proofs.lemmas.Bool.{false≢true}
 use Rattle.std.proofs.lemmas.Int.{ints}
-use Rattle.typed_prog.specs.declared.types.CoreType.{CoreType}
 use Rattle.typed_prog.specs.Tree as t
 use Rattle.qed_terms.specs.Operators.{is_zero, is_equal}
-use Rattle.acsl_truth.specs.States.{Value, number, number_of}
+use Rattle.acsl_truth.specs.States.{Value, number_of}
 use Rattle.c_runs.specs.Program.{Stmt, evaluate, block, initial, choose, loop, switch, case_of, default, break, continue, return_of, assert, Stmts, stop, more, Variable, Program}
-use Rattle.c_runs.specs.States.{World, Here, is_nonzero}
+use Rattle.c_runs.specs.States.{World, Here}
 use Rattle.c_runs.specs.Operators.{Val, is, wrong, truth_number}
 use Rattle.c_runs.specs.Values.{Temps, applied}
 use Rattle.c_runs.specs.Calls.{Eval}
@@ -20,7 +19,7 @@ use Rattle.normal_stmts.specs.Plans.{Made}
 use Rattle.normal_stmts.specs.Normal.{up, is_label, index_of, no_label, whole_switch, close, truth_of, label_test, dispatch, stmt, stmts, groups, normal}
 use Rattle.normal_stmts.proofs.Relations.{pair, keeps_all, Sure, sure_early, sure}
 use Rattle.normal_stmts.proofs.Plans.{truth_of_number, join_ex, one_ex}
-use Rattle.normal_stmts.proofs.Endings.{Like, on, out, once_more, back, halt, then_like, block_like, Switched, switched, no_such_label, switch_like}
+use Rattle.normal_stmts.proofs.Endings.{Like, on, halt, then_like, block_like, Switched, switched, no_such_label, switch_like}
 
 -- ---- the tests of labels
 

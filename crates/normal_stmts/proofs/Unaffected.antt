@@ -1,5 +1,5 @@
 -- What has no effect in it has the same value whatever an effect gave, and where it needs no statements it has it at once.
-use Rattle.std.proofs.Common.{◌≡◌, ℕ, ◌<◌, Bool, true, false, ◌||◌, if◌then◌else◌, List, refl, sym, ap, ◌∙◌, subst}
+use Rattle.std.proofs.Common.{◌≡◌, ℕ, Bool, true, false, ◌||◌, if◌then◌else◌, List, refl, sym, ap, ◌∙◌, subst}
 use Rattle.std.proofs.lemmas.Bool.{false≢true}
 use Rattle.typed_prog.specs.declared.types.CoreType.{CoreType}
 use Rattle.typed_prog.specs.Tree as tree
@@ -7,7 +7,7 @@ use Rattle.acsl_truth.specs.States.{Value}
 use Rattle.c_runs.specs.Program.{Facts, Variable, Program}
 use Rattle.c_runs.specs.States.{World, Here}
 use Rattle.c_runs.specs.Operators.{Val, is}
-use Rattle.c_runs.specs.Values.{node_has_effect, has_effect, have_effect, logic_of, choice_of, applied, Temps, Vals, push_val, with_vals, node_value, value, values}
+use Rattle.c_runs.specs.Values.{node_has_effect, has_effect, have_effect, logic_of, choice_of, applied, Temps, Vals, with_vals, node_value, value, values}
 use Rattle.c_runs.specs.Calls.{nought}
 use Rattle.c_runs.specs.Run.{no_temps}
 use Rattle.core_runs.specs.Core.{Cores}

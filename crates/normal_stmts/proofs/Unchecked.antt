@@ -1,5 +1,5 @@
 -- An expression without checks has a value.
-use Rattle.std.proofs.Common.{◌≡◌, ℕ, suc, Bool, true, false, not, ◌&&◌, ◌||◌, if◌then◌else◌, List, [], ◌∷◌, ◌++◌, Option, Some, None, refl, sym, ap, ◌∙◌, subst}
+use Rattle.std.proofs.Common.{◌≡◌, ℕ, suc, Bool, true, false, not, ◌&&◌, ◌||◌, if◌then◌else◌, List, [], ◌∷◌, ◌++◌, Option, Some, None, refl, sym, ap, ◌∙◌}
 use Rattle.std.proofs.lemmas.Bool.{false≢true}
 use Rattle.std.specs.Prelude.{ℤ, pos, negsuc, neg_ℤ, ◌+ℤ◌, ◌-ℤ◌, ◌*ℤ◌}
 use Rattle.wp_base.specs.declared.kinds.Kind.{Kind}
@@ -9,7 +9,6 @@ use Rattle.c_kinds.specs.Models.{low}
 use Rattle.typed_prog.specs.declared.types.CoreType.{CoreType}
 use Rattle.typed_prog.specs.declared.operators.Arithmetic.{Arithmetic}
 use Rattle.typed_prog.specs.declared.operators.Arithmetic.TheVariants as ar
-use Rattle.typed_prog.specs.declared.operators.Comparison.{Comparison}
 use Rattle.typed_prog.specs.declared.operators.Op.{Op}
 use Rattle.typed_prog.specs.declared.operators.Op.TheVariants as op
 use Rattle.typed_prog.specs.declared.operators.Path.{Path}
@@ -21,11 +20,11 @@ use Rattle.acsl_truth.specs.States.{Value, number, null, number_of}
 use Rattle.acsl_truth.specs.Truth.{first, second, compare_pointers}
 use Rattle.c_runs.specs.Program.{Facts, Variable}
 use Rattle.c_runs.specs.States.{Local, plain, home, World}
-use Rattle.c_runs.specs.Operators.{Undefined, init, overflow, divzero, access, pointing, comparing, Val, is, wrong, where_true, truth_number, may_divide, arithmetic, computed, negated, within, fits, is_order, may_compare, compared, pointed, pointed_unless}
+use Rattle.c_runs.specs.Operators.{Undefined, init, overflow, divzero, access, pointing, comparing, Val, is, wrong, where_true, truth_number, may_divide, arithmetic, computed, within, fits, is_order, pointed, pointed_unless}
 use Rattle.c_runs.specs.Objects.{plain_root, has_value, read_local, address, indexed, is_pointed, may_read, read_by, content, cell_of, is_sure, address_made}
 use Rattle.c_runs.specs.Values.{kind_at, moved_in, applied, value, node_value, values, Temps, Vals, are, wrongs, push_val}
 use Rattle.c_runs.specs.Calls.{nought}
-use Rattle.rte_checks.specs.Checks.{one_if, here, index_checks, read_checks_by, read_checks, constant_of, second_constant, may_be_zero, may_be_minus_one, division_checks, arithmetic_checks, op_checks, is_empty, has_checks, have_checks, node_may_fail}
+use Rattle.rte_checks.specs.Checks.{one_if, index_checks, read_checks_by, second_constant, division_checks, arithmetic_checks, op_checks, is_empty, has_checks, have_checks, node_may_fail}
 
 pub or_parts : (a b : Bool) → (a || b) ≡ false → (a ≡ false) × (b ≡ false)
 or_parts true b h = absurd (false≢true (sym h))

@@ -1,11 +1,11 @@
 -- What is promised of the core program.
 use Rattle.std.specs.Prelude.{◌≡◌, ℕ, Bool, true, ◌&&◌, List, Option, Some, None}
-use Rattle.typed_prog.specs.Tree.{Value, Values}
+use Rattle.typed_prog.specs.Tree.{Value}
 use Rattle.acsl_truth.specs.States.{Value as Held}
 use Rattle.c_runs.specs.Program.{Stmts, Variable, Program}
 use Rattle.c_runs.specs.States.{Memory}
 use Rattle.c_runs.specs.Run as spelled
-use Rattle.core_runs.specs.Core.{Target, nowhere, temporary, place, variable, Core, set, store, start, call, branch, repeat, around, exit, give, claim, scope, Cores, end, then_}
+use Rattle.core_runs.specs.Core.{Target, place, Core, set, store, start, call, branch, repeat, around, exit, give, claim, scope, Cores, end, then_}
 use Rattle.core_runs.specs.Run as core
 use Rattle.rte_checks.specs.Checks.{is_pure, are_pure}
 use Rattle.normal_stmts.specs.Normal.{stmts, normal}

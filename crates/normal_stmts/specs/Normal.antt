@@ -1,5 +1,5 @@
 -- The core program of a program as spelled (C11 6.8). `break`, `continue` and labels become exits of blocks.
-use Rattle.std.specs.Prelude.{ℕ, zero, suc, ℤ, pos, Bool, true, false, not, ◌&&◌, ◌||◌, if◌then◌else◌, List, Option, Some, None}
+use Rattle.std.specs.Prelude.{ℕ, zero, suc, ℤ, pos, Bool, true, false, ◌||◌, if◌then◌else◌, List, Option, Some, None}
 use Rattle.std.specs.Option.{option_map}
 use Rattle.wp_base.specs.declared.kinds.Kind.TheVariants as kind
 use Rattle.typed_prog.specs.declared.types.CoreType.{CoreType}
@@ -10,11 +10,11 @@ use Rattle.typed_prog.specs.declared.operators.Op.TheVariants as op
 use Rattle.typed_prog.specs.Types.{of_kind}
 use Rattle.typed_prog.specs.Tree as t
 use Rattle.qed_terms.specs.Operators.{is_equal}
-use Rattle.c_runs.specs.Program.{Loop, Stmt, evaluate, block, initial, choose, loop, switch, case_of, default, break, continue, return_of, assert, Stmts, stop, more, Variable, Function, Program}
+use Rattle.c_runs.specs.Program.{Stmt, evaluate, block, initial, choose, loop, switch, case_of, default, break, continue, return_of, assert, Stmts, stop, more, Variable, Function, Program}
 use Rattle.c_runs.specs.Values.{have_effect}
 use Rattle.c_runs.specs.Run.{updating, is_case, is_default}
-use Rattle.core_runs.specs.Core.{Target, nowhere, place, variable, Core, start, call, store, branch, repeat, around, exit, give, claim, scope, Cores, end, then_, join, one}
-use Rattle.normal_stmts.specs.Plans.{Made, Tests, Mades, Plan, save, operands, first_plan, planned, condition, next_of, fork, no_value, constant_of, pures, need}
+use Rattle.core_runs.specs.Core.{Target, nowhere, place, variable, start, call, store, branch, repeat, around, exit, give, claim, scope, Cores, end, then_, join, one}
+use Rattle.normal_stmts.specs.Plans.{Made, Tests, Mades, save, operands, first_plan, planned, condition, next_of, fork, no_value, constant_of, pures, need}
 
 -- what is done, and the next temporary
 pub record Did : Type 0 where

@@ -1,6 +1,6 @@
 -- What an expression of a program as spelled becomes in a core program. Its effect, connectives and choices become statements before it, and a value of theirs
 -- goes to a temporary; temporaries are numbered in the order in which these statements first set them.
-use Rattle.std.specs.Prelude.{ℕ, zero, suc, ℤ, pos, Bool, true, false, not, ◌&&◌, ◌||◌, if◌then◌else◌, List, []}
+use Rattle.std.specs.Prelude.{ℕ, suc, ℤ, pos, Bool, true, false, not, ◌&&◌, ◌||◌, if◌then◌else◌, List}
 use Rattle.typed_prog.specs.declared.types.CoreType.{CoreType}
 use Rattle.typed_prog.specs.declared.operators.Connective.{Connective}
 use Rattle.typed_prog.specs.declared.operators.Path.{Path}
@@ -13,7 +13,7 @@ use Rattle.typed_prog.specs.declared.operators.Op.{Op}
 use Rattle.typed_prog.specs.Types.{void}
 use Rattle.typed_prog.specs.Tree as t
 use Rattle.c_runs.specs.Program.{Variable}
-use Rattle.c_runs.specs.Values.{has_effect, have_effect, decides, agree}
+use Rattle.c_runs.specs.Values.{has_effect, decides, agree}
 use Rattle.c_runs.specs.Effects.{changed}
 use Rattle.c_runs.specs.Run.{first_operand, other_operands, old_value, updating}
 use Rattle.core_runs.specs.Core.{temporary, Core, set, store, call, branch, around, exit, Cores, end, then_, join, one}

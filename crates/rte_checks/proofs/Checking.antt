@@ -16,7 +16,7 @@ use Rattle.rte_checks.proofs.Settling.{settle_append, settle_map, push_settle, w
 use Rattle.rte_checks.proofs.Operators.{op_settle}
 
 module _ (p : Facts) (xs : List Variable) where
-  abbrev met_in : Temps → World → t.Values → Check → Bool
+  abbrev pub met_in : Temps → World → t.Values → Check → Bool
   met_in tm w es c = holds_in p xs tm w es c.way c.kind c.step
 
   later_holds : (tm : Temps) (w : World) (e : t.Value) (es : t.Values) (way : List ℕ) (u : Undefined) (n : ℕ)
@@ -26,7 +26,7 @@ module _ (p : Facts) (xs : List Variable) where
   later_holds tm w e es (i ∷ way) u n = refl
 
   -- each check of operands has a way that isn't empty
-  operands_same : {X : Type 0} (es : t.Values) (test test' : Check → Bool)
+  pub operands_same : {X : Type 0} (es : t.Values) (test test' : Check → Bool)
       → ((u : Undefined) (l n i : ℕ) (way : List ℕ)
       → test (record { kind = u; line = l; step = n; way = i ∷ way }) ≡ test' (record { kind = u; line = l; step = n; way = i ∷ way }))
       → (bad : Undefined → ℕ → X) (x : X) → settle (all_checks xs es) test bad x ≡ settle (all_checks xs es) test' bad x
@@ -60,11 +60,11 @@ module _ (p : Facts) (xs : List Variable) where
     node_checked (t.choose c a b) h type line tm d w = absurd (false≢true h)
     node_checked (t.effect e es) h type line tm d w = absurd (false≢true h)
 
-    one_checked : (e : t.Value) → is_pure e ≡ true → (tm : Temps) (d : Value) (w : World)
+    pub one_checked : (e : t.Value) → is_pure e ≡ true → (tm : Temps) (d : Value) (w : World)
         → value p xs tm d w e ≡ settle (checks_of xs e) (is_met p xs tm w e) wrong (is (total p xs tm w e))
     one_checked (t.typed node type line) h tm d w = node_checked node h type line tm d w
 
-    all_checked : (es : t.Values) → are_pure es ≡ true → (tm : Temps) (d : Value) (w : World)
+    pub all_checked : (es : t.Values) → are_pure es ≡ true → (tm : Temps) (d : Value) (w : World)
         → values p xs tm d w es ≡ settle (all_checks xs es) (met_in tm w es) wrongs (are (totals p xs tm w es))
     all_checked t.stop h tm d w = refl
     all_checked (t.more e es) h tm d w =

@@ -1,3 +1,5 @@
-mod Settling
-mod Operators
-mod Checking
+pub mod Settling
+pub mod Operators
+pub mod Checking
+mod Failing
+mod Idle

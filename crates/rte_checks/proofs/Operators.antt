@@ -27,7 +27,7 @@ use Rattle.rte_checks.specs.Tests.{total_read_by, total_applied, total, totals, 
 use Rattle.rte_checks.specs.Laws.{settle}
 use Rattle.rte_checks.proofs.Settling.{one_settle, last_settle}
 
-abbrev at_step : Undefined → (line n : ℕ) → Check
+abbrev pub at_step : Undefined → (line n : ℕ) → Check
 at_step u l n = record { kind = u; line = l; step = n; way = [] }
 
 -- ---- reading
@@ -39,7 +39,7 @@ local_settle false l (plain v b) test h = last_settle true b init l test v (λ e
 local_settle true l (home b) test h = refl
 local_settle false l (home b) test h = rw h refl
 
-indexed_settle : (vs : List Value) (ss : List Step) (n : ℕ) (test : Check → Bool) (cs : List Check) (v : Val) (x : Value)
+pub indexed_settle : (vs : List Value) (ss : List Step) (n : ℕ) (test : Check → Bool) (cs : List Check) (v : Val) (x : Value)
     → ((i k l : ℕ) → k ≡ n + i → test (at_step index l k) ≡ step_test vs (slice_get ss i))
     → v ≡ settle cs test wrong (is x) → indexed vs ss v ≡ settle (index_checks n ss ++ cs) test wrong (is x)
 indexed_settle vs [] n test cs v x h rest = rest
@@ -56,7 +56,7 @@ indexed_settle vs (step.Element operand size count line ∷ ss) n test cs v x h 
 indexed_settle vs (step.Field k o ∷ ss) n test cs v x h rest = indexed_settle vs ss (suc n) test cs v x (λ i k l e. h (suc i) k l (omega arith)) rest
 indexed_settle vs (step.Moved o size ∷ ss) n test cs v x h rest = indexed_settle vs ss (suc n) test cs v x (λ i k l e. h (suc i) k l (omega arith)) rest
 
-unless_pointed : (b ok : Bool) → b ≡ false → (if b then ok else true) ≡ true
+pub unless_pointed : (b ok : Bool) → b ≡ false → (if b then ok else true) ≡ true
 unless_pointed true ok e = absurd cc
 unless_pointed false ok e = refl
 

@@ -20,6 +20,14 @@ pub settle_map : {X : Type 0} (f : Check → Check) → ((c : Check) → (f c).k
 settle_map f k l [] test test' h bad x = refl
 settle_map f k l (c ∷ cs) test test' h bad x = rw (h c, k c, l c, settle_map f k l cs test test' h bad x) refl
 
+-- what goes on from a value, or stops
+pub settle_through : {A X : Type 0} (f : A → X) (cs : List Check) (test : Check → Bool) (bad : Undefined → ℕ → A) (x : A)
+    → f (settle cs test bad x) ≡ settle cs test (λ u l. f (bad u l)) (f x)
+settle_through f [] test bad x = refl
+settle_through f (c ∷ cs) test bad x =
+    elim (test c) as (λ t. f (if t then settle cs test bad x else bad c.kind c.line)
+    ≡ (if t then settle cs test (λ u l. f (bad u l)) (f x) else f (bad c.kind c.line))) [ true ↦ settle_through f cs test bad x | false ↦ refl ]
+
 -- ---- operands
 
 -- an operand's checks, and then those of the others

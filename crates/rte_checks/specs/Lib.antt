@@ -1,3 +1,4 @@
 pub mod Checks
 pub mod Tests
 pub mod Laws
+pub mod Failing

@@ -1,4 +1,5 @@
 // What is so of checks.
+ghost use Rattle.rte_checks.specs.Failing.{NoneIsIdle};
 ghost use Rattle.rte_checks.specs.Laws.{Checked};
 
 /// An expression of a core program has its total value where all its checks are met; else it is undefined, of the kind and at the line of the first one
@@ -6,4 +7,10 @@ ghost use Rattle.rte_checks.specs.Laws.{Checked};
 #[tactic(auto, using(crate::proofs::Checking::checked))]
 pub fn checked()
     ensures { Checked }
+{}
+
+/// For each check of an operator there are operands for which it is the first that isn't met.
+#[tactic(auto, using(crate::proofs::Idle::none_is_idle))]
+pub fn none_is_idle()
+    ensures { NoneIsIdle }
 {}

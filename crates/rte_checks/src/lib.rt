@@ -3,4 +3,4 @@
 
 mod laws;
 
-pub use laws::checked;
+pub use laws::{checked, none_is_idle};

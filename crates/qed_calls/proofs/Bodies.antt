@@ -1,10 +1,11 @@
 -- Bodies of functions: under which functions they mean the same, and what they mean with arguments for the parameters.
-use Rattle.std.proofs.Common.{◌≡◌, ℕ, Bool, true, false, ◌&&◌, ◌||◌, cond, List, [], ◌∷◌, bytes_eq, refl, sym, ◌∙◌, ap}
+use Rattle.std.proofs.Common.{◌≡◌, ℕ, zero, suc, Bool, true, false, ◌&&◌, ◌||◌, cond, List, [], ◌∷◌, bytes_eq, refl, sym, ◌∙◌, ap}
 use Rattle.std.specs.Prelude.{Some}
 use Rattle.std.specs.List.{list_any}
 use Rattle.wp_base.specs.declared.kinds.CellKind.TheVariants as cell
 use Rattle.qed_terms.specs.declared.head.Sort.{Sort}
 use Rattle.qed_terms.specs.declared.head.Sort.TheVariants as sort
+use Rattle.qed_terms.specs.declared.head.Head.{Head}
 use Rattle.qed_terms.specs.declared.head.Head.TheVariants as h
 use Rattle.qed_terms.specs.declared.head.TermOp.{TermOp}
 use Rattle.qed_terms.specs.declared.head.TermOp.TheVariants as op
@@ -13,10 +14,38 @@ use Rattle.qed_terms.specs.declared.head.FormOp.TheVariants as form
 use Rattle.qed_terms.specs.Meaning.{World, Values, Value, Whole, Truth, Cells, Blocks, value_of, term_value, form_truth, head_value, meaning, meanings}
 use Rattle.qed_terms.specs.Setting.{Param, Apps, has_sort, are_arguments, with_value, bound, same_param, sort_of, kids_match, is_plain, are_plain}
 use Rattle.qed_terms.specs.Tree.{Tree, node, Trees, stop, more, head_of}
-use Rattle.qed_terms.specs.WellFormed.{same_sort}
+use Rattle.qed_terms.specs.Names.{is_name}
+use Rattle.qed_terms.specs.WellFormed.{Place, argument, each, may_stand, kid_places, kid_count, fits, all_fit, same_sort}
 use Rattle.qed_linear.specs.Linear.{unwrap_or}
 use Rattle.qed_linear.proofs.Facts.{and_left, and_right}
 use Rattle.qed_calls.specs.Calls.{is_term, are_terms, argument_for, with_arguments, all_with_arguments}
+
+-- ---- arguments of calls are terms
+
+no_formula : (b c : Bool) → (b && false) && c ≡ true → ⊥
+no_formula true c q = absurd cc
+no_formula false c q = absurd cc
+
+argument_term : (t : Tree) → fits argument t ≡ true → is_term (head_of t) ≡ true
+argument_term (node (h.Num z) ts) f = refl
+argument_term (node (h.Var x s) ts) f = refl
+argument_term (node (h.Term o) ts) f = refl
+argument_term (node h.Ite ts) f = refl
+argument_term (node (h.App y) ts) f = refl
+argument_term (node (h.Forall x) ts) f = absurd (no_formula (is_name x) (all_fit (kid_places (h.Forall x) (kid_count ts)) ts) f)
+argument_term (node (h.Exists x) ts) f = absurd (no_formula (is_name x) (all_fit (kid_places (h.Exists x) (kid_count ts)) ts) f)
+argument_term (node head ts) f = absurd cc
+
+arguments_terms : (ts : Trees) (n : ℕ) → all_fit (each argument n) ts ≡ true → are_terms ts ≡ true
+arguments_terms stop n f = refl
+arguments_terms (more t ts) zero f = absurd cc
+arguments_terms (more t ts) (suc n) f =
+    let first = argument_term t (and_left (fits argument t) (all_fit (each argument n) ts) f) in
+    let rest = arguments_terms ts n (and_right (fits argument t) (all_fit (each argument n) ts) f) in
+    λ i. first i && rest i
+
+kids_fit : (place : Place) (head : Head) (ts : Trees) → fits place (node head ts) ≡ true → all_fit (kid_places head (kid_count ts)) ts ≡ true
+kids_fit place head ts f = and_right (may_stand place head) (all_fit (kid_places head (kid_count ts)) ts) f
 
 -- ---- the functions that a body uses
 
@@ -39,31 +68,35 @@ module _ (bits : ℕ) (params : List Param) (allowed : List ℕ → Trees → Bo
   form_alike (form.WellFormed cell.Ptr) vs = refl
   form_alike o vs = refl
 
-  module _ (alike : (y : List ℕ) (us : Trees) → allowed y us ≡ true → (vs : List Value) → a y vs ≡ b y vs) (env : Values) where
+  -- a call in a body that is used takes terms, and has one value in both
+  module _ (env : Values) (alike : (y : List ℕ) (us : Trees) → allowed y us ≡ true → are_terms us ≡ true → a y (meanings in_b env us) ≡ b y (meanings in_b env us)) where
     mutual
-      pub plain_alike : (t : Tree) → is_plain params allowed t ≡ true → meaning in_a env t ≡ meaning in_b env t
-      plain_alike (node (h.Num z) ts) k = refl
-      plain_alike (node (h.Var x s) ts) k = refl
-      plain_alike (node (h.Term o) ts) k = ap (term_value in_a o) (all_alike ts k) ∙ term_alike o (meanings in_b env ts)
-      plain_alike (node h.Ite ts) k = ap (head_value in_a env h.Ite) (all_alike ts k)
-      plain_alike (node (h.App y) ts) k =
-          ap (λ vs. Whole (a y vs)) (all_alike ts (and_right (allowed y ts) (are_plain params allowed ts) k)) ∙ ap Whole (alike y ts (and_left (allowed y ts) (are_plain params allowed ts) k) (meanings in_b env ts))
-      plain_alike (node (h.Form o) ts) k = ap (λ vs. Truth (form_truth in_a o vs)) (all_alike ts k) ∙ ap Truth (form_alike o (meanings in_b env ts))
-      plain_alike (node h.True ts) k = refl
-      plain_alike (node h.False ts) k = refl
-      plain_alike (node h.Not ts) k = ap (head_value in_a env h.Not) (all_alike ts k)
-      plain_alike (node h.And ts) k = ap (head_value in_a env h.And) (all_alike ts k)
-      plain_alike (node h.Or ts) k = ap (head_value in_a env h.Or) (all_alike ts k)
-      plain_alike (node h.Imp ts) k = ap (head_value in_a env h.Imp) (all_alike ts k)
-      plain_alike (node h.Iff ts) k = ap (head_value in_a env h.Iff) (all_alike ts k)
-      plain_alike (node (h.Forall x) ts) k = absurd cc
-      plain_alike (node (h.Exists x) ts) k = absurd cc
+      pub plain_alike : (place : Place) (t : Tree) → fits place t ≡ true → is_plain params allowed t ≡ true → meaning in_a env t ≡ meaning in_b env t
+      plain_alike place (node (h.Num z) ts) f k = refl
+      plain_alike place (node (h.Var x s) ts) f k = refl
+      plain_alike place (node (h.Term o) ts) f k = ap (term_value in_a o) (all_alike (kid_places (h.Term o) (kid_count ts)) ts (kids_fit place (h.Term o) ts f) k) ∙ term_alike o (meanings in_b env ts)
+      plain_alike place (node h.Ite ts) f k = ap (head_value in_a env h.Ite) (all_alike (kid_places h.Ite (kid_count ts)) ts (kids_fit place h.Ite ts f) k)
+      plain_alike place (node (h.App y) ts) f k =
+          let terms = arguments_terms ts (kid_count ts) (kids_fit place (h.App y) ts f) in
+          ap (λ vs. Whole (a y vs)) (all_alike (kid_places (h.App y) (kid_count ts)) ts (kids_fit place (h.App y) ts f) (and_right (allowed y ts) (are_plain params allowed ts) k))
+          ∙ ap Whole (alike y ts (and_left (allowed y ts) (are_plain params allowed ts) k) terms)
+      plain_alike place (node (h.Form o) ts) f k = ap (λ vs. Truth (form_truth in_a o vs)) (all_alike (kid_places (h.Form o) (kid_count ts)) ts (kids_fit place (h.Form o) ts f) k) ∙ ap Truth (form_alike o (meanings in_b env ts))
+      plain_alike place (node h.True ts) f k = refl
+      plain_alike place (node h.False ts) f k = refl
+      plain_alike place (node h.Not ts) f k = ap (head_value in_a env h.Not) (all_alike (kid_places h.Not (kid_count ts)) ts (kids_fit place h.Not ts f) k)
+      plain_alike place (node h.And ts) f k = ap (head_value in_a env h.And) (all_alike (kid_places h.And (kid_count ts)) ts (kids_fit place h.And ts f) k)
+      plain_alike place (node h.Or ts) f k = ap (head_value in_a env h.Or) (all_alike (kid_places h.Or (kid_count ts)) ts (kids_fit place h.Or ts f) k)
+      plain_alike place (node h.Imp ts) f k = ap (head_value in_a env h.Imp) (all_alike (kid_places h.Imp (kid_count ts)) ts (kids_fit place h.Imp ts f) k)
+      plain_alike place (node h.Iff ts) f k = ap (head_value in_a env h.Iff) (all_alike (kid_places h.Iff (kid_count ts)) ts (kids_fit place h.Iff ts f) k)
+      plain_alike place (node (h.Forall x) ts) f k = absurd cc
+      plain_alike place (node (h.Exists x) ts) f k = absurd cc
 
-      all_alike : (ts : Trees) → are_plain params allowed ts ≡ true → meanings in_a env ts ≡ meanings in_b env ts
-      all_alike stop k = refl
-      all_alike (more t ts) k =
-          let first = plain_alike t (and_left (is_plain params allowed t) (are_plain params allowed ts) k) in
-          let rest = all_alike ts (and_right (is_plain params allowed t) (are_plain params allowed ts) k) in
+      all_alike : (places : List Place) (ts : Trees) → all_fit places ts ≡ true → are_plain params allowed ts ≡ true → meanings in_a env ts ≡ meanings in_b env ts
+      all_alike places stop f k = refl
+      all_alike [] (more t ts) f k = absurd cc
+      all_alike (place ∷ places) (more t ts) f k =
+          let first = plain_alike place t (and_left (fits place t) (all_fit places ts) f) (and_left (is_plain params allowed t) (are_plain params allowed ts) k) in
+          let rest = all_alike places ts (and_right (fits place t) (all_fit places ts) f) (and_right (is_plain params allowed t) (are_plain params allowed ts) k) in
           λ i. first i ∷ rest i
 
 -- ---- arguments

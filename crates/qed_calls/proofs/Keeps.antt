@@ -23,17 +23,17 @@ use Rattle.qed_calls.proofs.Bodies.{plain_alike, arguments, placed}
 
 -- ---- names of functions
 
-same_name : (x y : List ℕ) → bytes_eq x y ≡ true → x ≡ y
+pub same_name : (x y : List ℕ) → bytes_eq x y ≡ true → x ≡ y
 same_name x y e = (bytes_eq-Decides x y).0 e
 
-name_itself : (x : List ℕ) → bytes_eq x x ≡ true
+pub name_itself : (x : List ℕ) → bytes_eq x x ≡ true
 name_itself x = (bytes_eq-Decides x x).1 refl
 
 -- a function of this name is among them
-abbrev has_name : List ℕ → List Logic → Bool
+abbrev pub has_name : List ℕ → List Logic → Bool
 has_name y fs = list_any (λ (g : Logic). bytes_eq g.name y) fs
 
-has_more : (y : List ℕ) (fs gs : List Logic) → has_name y fs ≡ true → has_name y (fs ++ gs) ≡ true
+pub has_more : (y : List ℕ) (fs gs : List Logic) → has_name y fs ≡ true → has_name y (fs ++ gs) ≡ true
 has_more y [] gs k = absurd cc
 has_more y (f ∷ fs) gs k = go (bytes_eq f.name y) k (has_more y fs gs)
   where
@@ -41,7 +41,7 @@ has_more y (f ∷ fs) gs k = go (bytes_eq f.name y) k (has_more y fs gs)
     go true q r = refl
     go false q r = r q
 
-has_last : (fs : List Logic) (f : Logic) → has_name (f.name) (fs ++ f ∷ []) ≡ true
+pub has_last : (fs : List Logic) (f : Logic) → has_name (f.name) (fs ++ f ∷ []) ≡ true
 has_last [] f = ap (λ b. b || false) (name_itself f.name)
 has_last (g ∷ fs) f = go (bytes_eq g.name f.name) (has_last fs f)
   where
@@ -49,7 +49,7 @@ has_last (g ∷ fs) f = go (bytes_eq g.name f.name) (has_last fs f)
     go true r = refl
     go false r = r
 
-taken_named : (y : List ℕ) (us : Trees) (fs : List Logic) → some_takes fs y us ≡ true → has_name y fs ≡ true
+pub taken_named : (y : List ℕ) (us : Trees) (fs : List Logic) → some_takes fs y us ≡ true → has_name y fs ≡ true
 taken_named y us [] k = absurd cc
 taken_named y us (f ∷ fs) k = go (bytes_eq y f.name) refl k (taken_named y us fs)
   where
@@ -64,7 +64,7 @@ taken_named y us (f ∷ fs) k = go (bytes_eq y f.name) refl k (taken_named y us 
 -- ---- regular functions
 
 -- the name of a regular function is new
-new_name : (before : List Logic) (f : Logic) → is_regular_after before f ≡ true → has_name (f.name) before ≡ false
+pub new_name : (before : List Logic) (f : Logic) → is_regular_after before f ≡ true → has_name (f.name) before ≡ false
 new_name before f k = go (has_name (f.name) before) (and_right (is_name f.name) (not (has_name (f.name) before)) (first _ _ (first _ _ (first _ _ (first _ _ (first _ _ k))))))
   where
     first : (p q : Bool) → p && q ≡ true → p ≡ true
@@ -74,7 +74,7 @@ new_name before f k = go (has_name (f.name) before) (and_right (is_name f.name) 
     go true q = absurd cc
     go false q = refl
 
-base_plain : (before : List Logic) (f : Logic) → is_regular_after before f ≡ true → is_body f.params (some_takes before) f.base ≡ true
+pub base_plain : (before : List Logic) (f : Logic) → is_regular_after before f ≡ true → is_body f.params (some_takes before) f.base ≡ true
 base_plain before f k = and_right _ (is_body f.params (some_takes before) f.base) (and_left _ _ k)
 
 -- another function leaves the functions before it
@@ -82,7 +82,7 @@ module _ (bits : ℕ) where
   unchanged : (known : Apps) (f : Logic) (y : List ℕ) (vs : List Value) → bytes_eq y f.name ≡ false → after bits known f y vs ≡ known y vs
   unchanged known f y vs k = ap (λ b. cond (b && are_arguments f.params vs) (descend bits known f (steps_of f vs) vs) (known y vs)) k
 
-  kept : (fs before : List Logic) (known : Apps) (y : List ℕ) → are_regular_after before fs ≡ true → has_name y before ≡ true → (vs : List Value) → apps_from bits known fs y vs ≡ known y vs
+  pub kept : (fs before : List Logic) (known : Apps) (y : List ℕ) → are_regular_after before fs ≡ true → has_name y before ≡ true → (vs : List Value) → apps_from bits known fs y vs ≡ known y vs
   kept [] before known y k l vs = refl
   kept (f ∷ fs) before known y k l vs =
       kept fs (before ++ f ∷ []) (after bits known f) y (and_right (is_regular_after before f) (are_regular_after (before ++ f ∷ []) fs) k) (has_more y before (f ∷ []) l) vs
@@ -105,7 +105,7 @@ module _ (bits : ℕ) where
   number_there world env (more t ts) zero z k = number_is world env t z k
   number_there world env (more t ts) (suc n) z k = number_there world env ts n z k
 
-  none_above : (z : ℤ) → z ≤ℤ pos 0 → to_nat z ≡ 0
+  pub none_above : (z : ℤ) → z ≤ℤ pos 0 → to_nat z ≡ 0
   none_above (pos zero) k = refl
   none_above (pos (suc n)) k = absurd (omega (arith, ints, k))
   none_above (negsuc n) k = refl
@@ -143,7 +143,7 @@ module _ (bits : ℕ) where
 
   -- ---- the base case
 
-  base_value : (known : Apps) (f : Logic) (vs : List Value) → descend bits known f zero vs ≡ value (record { long_bits = bits; apps = known }) (bound f.params vs) f.base
+  pub base_value : (known : Apps) (f : Logic) (vs : List Value) → descend bits known f zero vs ≡ value (record { long_bits = bits; apps = known }) (bound f.params vs) f.base
   unfolding descend
   base_value known f vs = refl
 
@@ -165,13 +165,16 @@ module _ (bits : ℕ) where
       let body = base_plain before f this in
       let integer = and_left (fits int f.base) (is_plain f.params (some_takes before) f.base) body in
       let plain = and_right (fits int f.base) (is_plain f.params (some_takes before) f.base) body in
-      let alike : (y : List ℕ) (us : Trees) → some_takes before y us ≡ true → (ws : List Value) → full y ws ≡ known y ws = λ y us q ws. kept (f ∷ fs) before known y regular (taken_named y us before q) ws in
+      let small : World = record { long_bits = bits; apps = known } in
+      let inner = bound f.params vs in
+      let alike : (y : List ℕ) (us : Trees) → some_takes before y us ≡ true → are_terms us ≡ true → full y (meanings small inner us) ≡ known y (meanings small inner us) =
+      λ y us q terms. kept (f ∷ fs) before known y regular (taken_named y us before q) (meanings small inner us) in
       let own : full x vs ≡ after bits known f x vs = kept fs (before ++ f ∷ []) (after bits known f) x later (ap (λ z. has_name z (before ++ f ∷ [])) (same_name x f.name named) ∙ has_last before f) vs in
       let used : uses f x vs ≡ true = λ i. named i && arguments world env f.params ts match terms i in
       let call : after bits known f x vs ≡ value (record { long_bits = bits; apps = known }) (bound f.params vs) f.base =
       ap (λ b. cond b (descend bits known f (steps_of f vs) vs) (known x vs)) used ∙ ap (λ n. descend bits known f n vs) (no_steps world env ts f low) ∙ base_value known f vs in
       placed world env f.params ts match terms (some_takes before) f.base plain ∙ body_whole world (bound f.params vs) f.base integer
-      ∙ ap (λ v. Whole (whole v)) (plain_alike bits f.params (some_takes before) full known alike (bound f.params vs) f.base plain) ∙ ap Whole (sym (own ∙ call))
+      ∙ ap (λ v. Whole (whole v)) (plain_alike bits f.params (some_takes before) full known inner alike int f.base integer plain) ∙ ap Whole (sym (own ∙ call))
 
   base_means : (fs before : List Logic) (known : Apps) (x : List ℕ) (ts : Trees) (w : Tree) (env : Values) → are_regular_after before fs ≡ true → base_of fs x ts ≡ Some w
       → meaning (record { long_bits = bits; apps = apps_from bits known fs }) env w ≡ Whole (apps_from bits known fs x (meanings (record { long_bits = bits; apps = apps_from bits known fs }) env ts))
@@ -189,7 +192,7 @@ module _ (bits : ℕ) where
           ap (meaning world env) (sym p.1) ∙ here_means f fs before known x ts env k q p.0
       go false q r later = later r
 
-regular_functions : (s : Setting) → is_regular s ≡ true → are_regular_after [] s.logic ≡ true
+pub regular_functions : (s : Setting) → is_regular s ≡ true → are_regular_after [] s.logic ≡ true
 unfolding is_regular
 regular_functions s k = and_right _ (are_regular_after [] s.logic) k
 

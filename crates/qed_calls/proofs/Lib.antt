@@ -1,2 +1,5 @@
 pub mod Bodies
 pub mod Keeps
+pub mod Fixed
+pub mod Placed
+pub mod Kids

@@ -57,11 +57,14 @@ kid_number (more t ts) (suc n) = kid_number ts n
 abbrev pub fits_call : List ℕ → Trees → Logic → Bool
 fits_call x ts f = takes x ts f && are_terms ts
 
--- what the call of a function becomes, where that takes the arguments and its number is at most the cut
+-- the base case of the function, where its number is at most the cut
+abbrev pub base_at : Logic → Trees → Option Tree
+base_at f ts = then_some (is_at_most f.cut (kid_number ts f.number)) (with_arguments f.params ts f.base)
+
+-- what a call becomes by the function that takes the arguments
 abbrev pub base_of : List Logic → List ℕ → Trees → Option Tree
 base_of [] x ts = None
-base_of (f ∷ fs) x ts =
-    if fits_call x ts f then then_some (is_at_most f.cut (kid_number ts f.number)) (with_arguments f.params ts f.base) else base_of fs x ts
+base_of (f ∷ fs) x ts = if fits_call x ts f then base_at f ts else base_of fs x ts
 
 abbrev pub call_rule : List Logic → Rule
 call_rule fs (h.App x) ts = base_of fs x ts

@@ -7,6 +7,8 @@ use Rattle.qed_terms.specs.declared.head.TermOp.TheVariants as op
 use Rattle.qed_terms.specs.declared.head.FormOp.{FormOp}
 use Rattle.qed_terms.specs.declared.head.FormOp.TheVariants as rel
 use Rattle.qed_terms.specs.Tree.{Tree, node, Trees, stop, more, list_of, head_of, two, one, three, num, true_tree, at_most, equal, ite, not_of}
+use Rattle.qed_terms.specs.Setting.{Logic, Setting}
+use Rattle.qed_calls.specs.Calls.{base_of}
 use Rattle.qed_linear.specs.Linear.{Lin, of_lin, to_lin, checked, subtract, unwrap_or}
 use Rattle.qed_numbers.specs.Numbers.{first_some, number_at, long_rule, number_step}
 use Rattle.qed_substitution.specs.Substitution.{quantifier}
@@ -153,12 +155,17 @@ pass_quantifier b x t u f =
     if is_empty_between (number_at t) (number_at u) || is_truth_constant b f then done (truth_constant b)
     else or_again (single_range_rule b x t u f) (node (quantifier b x) (three t u f))
 
+-- what the call of a logic function becomes, or the call
+abbrev pub pass_call : List Logic → List ℕ → Trees → Pass
+pass_call fs x ts = or_again (base_of fs x ts) (node (h.App x) ts)
+
 -- what a node comes to over kids in normal form
-abbrev pub pass : (long_bits : ℕ) → Head → Trees → Pass
-pass bits (h.Form o) ts = pass_relation o ts
-pass bits h.Not (more f stop) = pass_not f
-pass bits h.Imp (more a (more b stop)) = pass_implication a b
-pass bits h.Iff (more a (more b stop)) = pass_equivalence a b
-pass bits (h.Forall x) (more t (more u (more f stop))) = pass_quantifier true x t u f
-pass bits (h.Exists x) (more t (more u (more f stop))) = pass_quantifier false x t u f
-pass bits head ts = done (normal_node bits head ts)
+abbrev pub pass : Setting → Head → Trees → Pass
+pass s (h.App x) ts = pass_call s.logic x ts
+pass s (h.Form o) ts = pass_relation o ts
+pass s h.Not (more f stop) = pass_not f
+pass s h.Imp (more a (more b stop)) = pass_implication a b
+pass s h.Iff (more a (more b stop)) = pass_equivalence a b
+pass s (h.Forall x) (more t (more u (more f stop))) = pass_quantifier true x t u f
+pass s (h.Exists x) (more t (more u (more f stop))) = pass_quantifier false x t u f
+pass s head ts = done (normal_node s.long_bits head ts)

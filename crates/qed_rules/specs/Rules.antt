@@ -8,11 +8,13 @@ use Rattle.qed_terms.specs.declared.head.FormOp.TheVariants as rel
 use Rattle.qed_terms.specs.Tree.{Tree, node, Trees, stop, more, list_of, head_of, kids_in, two, three, num, true_tree, false_tree, at_most, equal, not_of, and_of, or_of}
 use Rattle.qed_terms.specs.Operators.{is_zero, is_equal}
 use Rattle.qed_terms.specs.Order.{same}
+use Rattle.qed_terms.specs.Setting.{Setting}
 pub use Rattle.qed_numbers.specs.Numbers.{Rule, then_some, first_some, first_of_rules}
 use Rattle.qed_numbers.specs.Numbers.{number_at}
 use Rattle.qed_numbers.specs.Numbers.{division_rule, divisor_one_rule, divisor_zero_rule, dividend_zero_rule, conversion_rule, long_rule, second_conversion_rule, left_shift_rule, right_shift_zero_rule, right_shift_rule, bits_rule, bits_zero_rule}
 use Rattle.qed_linear.specs.Linear.{Lin, of_lin, number, is_number, subtract, checked, head_form, to_lin, to_lins, is_integer, common_divisor, divides, tighten, divide_exact, make_lead_positive}
 use Rattle.qed_substitution.specs.Substitution.{replace, may_replace}
+use Rattle.qed_calls.specs.Calls.{call_rule}
 use Rattle.qed_memories.specs.Memories.{load_rule, store_rule, count_rule, grow_rule, no_growth_rule, at_block, over_grown, over_made, over_none}
 
 -- the heads of formulas; a formula may stand in for a node that is one
@@ -261,18 +263,18 @@ same_memory_rule head ts = None
 
 -- ---- the table
 
--- where `long` has so many bits
-abbrev pub table : (long_bits : ℕ) → List Rule
-table bits =
+-- in a setting, which says how many bits `long` has, and has the recursive logic functions
+abbrev pub table : Setting → List Rule
+table s =
     sums_rule
     ∷ division_rule ∷ divisor_one_rule ∷ divisor_zero_rule ∷ dividend_zero_rule ∷ conversion_rule ∷ second_conversion_rule
-    ∷ left_shift_rule ∷ right_shift_zero_rule ∷ right_shift_rule ∷ bits_rule ∷ bits_zero_rule ∷ long_rule bits
+    ∷ left_shift_rule ∷ right_shift_zero_rule ∷ right_shift_rule ∷ bits_rule ∷ bits_zero_rule ∷ long_rule s.long_bits
     ∷ choice_rule
     ∷ load_rule ∷ store_rule ∷ count_rule ∷ grow_rule ∷ no_growth_rule ∷ at_block over_grown ∷ at_block over_made ∷ at_block over_none
     ∷ less_rule ∷ at_most_rule ∷ equality_rule ∷ implication_rule ∷ equivalence_rule ∷ negation_rule
     ∷ at_junctions flat_rule ∷ at_junctions absorbing_rule ∷ at_junctions units_rule ∷ at_junctions repeats_rule ∷ at_junctions opposites_rule ∷ at_junctions single_rule
-    ∷ at_quantifiers empty_rule ∷ at_quantifiers single_range_rule ∷ same_memory_rule ∷ []
+    ∷ at_quantifiers empty_rule ∷ at_quantifiers single_range_rule ∷ same_memory_rule ∷ call_rule s.logic ∷ []
 
 -- what the first rule that changes a node makes of it
-abbrev pub step : (long_bits : ℕ) → Tree → Option Tree
-step bits (node head ts) = first_of_rules (table bits) head ts
+abbrev pub step : Setting → Tree → Option Tree
+step s (node head ts) = first_of_rules (table s) head ts

@@ -6,6 +6,7 @@ use Rattle.qed_terms.specs.declared.head.Head.TheVariants as h
 use Rattle.qed_terms.specs.declared.head.TermOp.{TermOp}
 use Rattle.qed_terms.specs.declared.head.TermOp.TheVariants as op
 use Rattle.qed_terms.specs.declared.head.FormOp.TheVariants as rel
+use Rattle.qed_terms.specs.Setting.{Setting}
 use Rattle.qed_terms.specs.Tree.{Tree, node, Trees, stop, more, trees_of, list_of, head_of, kids_in, two, three, num, at_most, equal, true_tree, false_tree, not_of}
 use Rattle.qed_terms.specs.Operators.{is_zero, is_equal}
 use Rattle.wp_base.specs.Blocks.{to_nat}
@@ -22,9 +23,10 @@ use Rattle.qed_memories.proofs.Keeps.{alike_where, memories_keep}
 use Rattle.qed_linear.proofs.Facts.{and_left, and_right}
 use Rattle.qed_numbers.proofs.Tests.{or_either, then_some_is, either, AllOf, first_one}
 use Rattle.qed_terms.proofs.Total.{same_exact}
+use Rattle.qed_simplify.specs.Normal.{KeepsCalls}
 use Rattle.qed_simplify.proofs.Comparisons.{le_difference, lt_more, not_le, zero_less}
 use Rattle.qed_simplify.proofs.Derived.{Fixed, AllFixed}
-use Rattle.qed_simplify.proofs.Tables.{last_rules, junction_rules, formula_rules, other_rules, ruled, op_step, form_step}
+use Rattle.qed_simplify.proofs.Tables.{last_rules, junction_rules, formula_rules, other_rules, ruled, op_step, form_step, call_step}
 use Rattle.qed_simplify.proofs.Sorts.{integer_whole, formula_truth}
 use Rattle.qed_simplify.proofs.Quantified.{KeepsQuantifier, keeps_empty, keeps_single_range, keeps_same_memory}
 use Rattle.qed_simplify.proofs.Settled.{Canonical, to_lin_canonical, to_lins_canonical, IsAtom, IsFactor, product_atom}
@@ -33,7 +35,7 @@ use Rattle.qed_linear.proofs.Multiplied.{head_form_canonical}
 use Rattle.qed_linear.proofs.Values.{value_of, subtract_value, checked_value, number_value, to_lin_value, head_form_value, of_lin_value, tighten_value, divide_exact_value, never_zero, lead_positive_value}
 use Rattle.qed_simplify.proofs.Truths.{both, both_assoc, both_comm, both_unit, both_absorber, both_itself, both_opposed, not_and, not_or, not_not, or_false, both_ways, some_not, all_not}
 
-module _ (bits : ℕ) where
+module _ (set : Setting) where
   module _ (world : World) (env : Values) where
     abbrev M : Tree → Value
     M = meaning world env
@@ -45,7 +47,7 @@ module _ (bits : ℕ) where
     so = truth world env
 
     abbrev Keeps : Rule → Type 0
-    Keeps r = (head : Head) (ts : Trees) (w : Tree) → AllFixed (step bits) ts → r head ts ≡ Some w → M w ≡ M (node head ts)
+    Keeps r = (head : Head) (ts : Trees) (w : Tree) → AllFixed (step set) ts → r head ts ≡ Some w → M w ≡ M (node head ts)
 
     truth_means : (b : Bool) → M (truth_constant b) ≡ Truth b
     truth_means true = refl
@@ -94,7 +96,7 @@ module _ (bits : ℕ) where
         go : (o : Option Lin) → head_form head (to_lins ts) ≡ o → changed of_lin o (node head ts) ≡ Some w → M w ≡ M (node head ts)
         go None e r = absurd cc
         go (Some g) e r =
-            let good = head_form_canonical (IsAtom bits) (IsFactor bits) (product_atom bits) head (to_lins ts) g ((to_lins_canonical bits) ts f) e in
+            let good = head_form_canonical (IsAtom set) (IsFactor set) (product_atom set) head (to_lins ts) g ((to_lins_canonical set) ts f) e in
             ap M (sym (unless_same_is (of_lin g) (node head ts) w r)) ∙ integer_whole world env (of_lin g) (of_lin_integer (g.parts) (g.constant) good.1)
             ∙ ap Whole (of_lin_value world env g ∙ head_form_value world env head ts g e) ∙ sym (own_integer head (to_lins ts) g e ts)
 
@@ -125,23 +127,23 @@ module _ (bits : ℕ) where
     at_most_zero_means : (g : Lin) → M (at_most_zero g) ≡ Truth (int_le (value_of world env g) (pos 0))
     at_most_zero_means g = ap (λ z. Truth (int_le z (pos 0))) (of_lin_value world env g)
 
-    at_most_means : (g : Lin) → (Canonical bits) (g.parts) → M (at_most_tree g) ≡ Truth (int_le (value_of world env g) (pos 0))
+    at_most_means : (g : Lin) → (Canonical set) (g.parts) → M (at_most_tree g) ≡ Truth (int_le (value_of world env g) (pos 0))
     at_most_means g k = go (is_number g) refl
       where
         go : (b : Bool) → is_number g ≡ b → M (cond b (truth_constant (int_le (g.constant) (pos 0))) (at_most_zero (tighten g))) ≡ Truth (int_le (value_of world env g) (pos 0))
         go true e = truth_means (int_le (g.constant) (pos 0)) ∙ ap (λ z. Truth (int_le z (pos 0))) (sym (number_value world env g e))
-        go false e = at_most_zero_means (tighten g) ∙ ap Truth (tighten_value world env (IsAtom bits) g k e)
+        go false e = at_most_zero_means (tighten g) ∙ ap Truth (tighten_value world env (IsAtom set) g k e)
 
     zero_means : (g : Lin) → M (equals_zero g) ≡ Truth (is_zero (value_of world env g))
     zero_means g = ap (λ z. Truth (is_equal z (pos 0))) (of_lin_value world env g) ∙ ap Truth (zero_less (value_of world env g))
 
-    equal_means : (g : Lin) → (Canonical bits) (g.parts) → M (equal_tree g) ≡ Truth (is_zero (value_of world env g))
+    equal_means : (g : Lin) → (Canonical set) (g.parts) → M (equal_tree g) ≡ Truth (is_zero (value_of world env g))
     equal_means g k = go (is_number g) (divides (common_divisor (g.parts)) (g.constant)) refl refl
       where
         go : (b c : Bool) → is_number g ≡ b → divides (common_divisor (g.parts)) (g.constant) ≡ c
             → M (cond b (truth_constant (is_zero (g.constant))) (cond c (equals_zero (make_lead_positive (divide_exact g))) false_tree)) ≡ Truth (is_zero (value_of world env g))
         go true c e d = truth_means (is_zero (g.constant)) ∙ ap (λ z. Truth (is_zero z)) (sym (number_value world env g e))
-        go false true e d = zero_means (make_lead_positive (divide_exact g)) ∙ ap Truth (lead_positive_value world env (divide_exact g) ∙ divide_exact_value world env (IsAtom bits) g k e d)
+        go false true e d = zero_means (make_lead_positive (divide_exact g)) ∙ ap Truth (lead_positive_value world env (divide_exact g) ∙ divide_exact_value world env (IsAtom set) g k e d)
         go false false e d = ap Truth (sym (never_zero world env g d))
 
     -- the form of a difference
@@ -151,8 +153,8 @@ module _ (bits : ℕ) where
         let b = to_lin_value world env u in
         checked_value world env (subtract (to_lin t) (to_lin u)) g e ∙ subtract_value world env (to_lin t) (to_lin u) ∙ (λ i. a i -ℤ b i)
 
-    difference_canonical : (t u : Tree) (g : Lin) → Fixed (step bits) t → Fixed (step bits) u → checked (subtract (to_lin t) (to_lin u)) ≡ Some g → (Canonical bits) (g.parts)
-    difference_canonical t u g f k e = (checked_canonical (IsAtom bits) (subtract (to_lin t) (to_lin u)) g (subtract_canonical (IsAtom bits) (to_lin t) (to_lin u) ((to_lin_canonical bits) t f) ((to_lin_canonical bits) u k)) e).0.0
+    difference_canonical : (t u : Tree) (g : Lin) → Fixed (step set) t → Fixed (step set) u → checked (subtract (to_lin t) (to_lin u)) ≡ Some g → (Canonical set) (g.parts)
+    difference_canonical t u g f k e = (checked_canonical (IsAtom set) (subtract (to_lin t) (to_lin u)) g (subtract_canonical (IsAtom set) (to_lin t) (to_lin u) ((to_lin_canonical set) t f) ((to_lin_canonical set) u k)) e).0.0
 
     keeps_less : Keeps less_rule
     keeps_less (h.Form rel.Less) (more t (more u stop)) w f k =
@@ -435,28 +437,29 @@ module _ (bits : ℕ) where
     others_keep = (keeps_sums, (keeps_arm, formulas_keep))
 
     -- one of these rules, and one on memories and tables
-    by_one : (rs : List Rule) → AllOf Keeps rs → (head : Head) (ts : Trees) (w : Tree) → AllFixed (step bits) ts → first_of_rules rs head ts ≡ Some w → Alike (M w) (M (node head ts))
+    by_one : (rs : List Rule) → AllOf Keeps rs → (head : Head) (ts : Trees) (w : Tree) → AllFixed (step set) ts → first_of_rules rs head ts ≡ Some w → Alike (M w) (M (node head ts))
     by_one rs a head ts w f k = let r = first_one Keeps rs a head ts w k in alike_where (M w) (M (node head ts)) (r.1.0 head ts w f r.1.1)
 
     by_memory : (head : Head) (ts : Trees) (w : Tree) → memory_step head ts ≡ Some w → Alike (M w) (M (node head ts))
     by_memory head ts w k = memories_keep head ts w k world env
 
-    by_number : world.long_bits ≡ bits → (o : TermOp) (ts : Trees) (w : Tree) → ruled bits o ts ≡ Some w → M w ≡ M (node (h.Term o) ts)
-    by_number same o ts w k = elim (either (number_step (h.Term o) ts) (long_rule bits (h.Term o) ts) w k) [
+    by_number : world.long_bits ≡ set.long_bits → (o : TermOp) (ts : Trees) (w : Tree) → ruled set.long_bits o ts ≡ Some w → M w ≡ M (node (h.Term o) ts)
+    by_number same o ts w k = elim (either (number_step (h.Term o) ts) (long_rule set.long_bits (h.Term o) ts) w k) [
       | inl e ↦ numbers_keep o ts w e world env
-      | inr e ↦ long_keeps bits o ts w e world env same
+      | inr e ↦ long_keeps set.long_bits o ts w e world env same
     ]
 
-    pub step_keeps : world.long_bits ≡ bits → (head : Head) (ts : Trees) (w : Tree) → AllFixed (step bits) ts → step bits (node head ts) ≡ Some w → Alike (M w) (M (node head ts))
-    step_keeps same (h.Term o) ts w f k = elim (either (sums_rule (h.Term o) ts) (first_some (ruled bits o ts) (memory_step (h.Term o) ts)) w (sym (op_step bits o ts) ∙ k)) [
+    pub step_keeps : world.long_bits ≡ set.long_bits → KeepsCalls set world → (head : Head) (ts : Trees) (w : Tree) → AllFixed (step set) ts → step set (node head ts) ≡ Some w → Alike (M w) (M (node head ts))
+    step_keeps same calls (h.Term o) ts w f k = elim (either (sums_rule (h.Term o) ts) (first_some (ruled set.long_bits o ts) (memory_step (h.Term o) ts)) w (sym (op_step set o ts) ∙ k)) [
       | inl e ↦ alike_where (M w) (M (node (h.Term o) ts)) (keeps_sums (h.Term o) ts w f e)
-      | inr e ↦ elim (either (ruled bits o ts) (memory_step (h.Term o) ts) w e) [
+      | inr e ↦ elim (either (ruled set.long_bits o ts) (memory_step (h.Term o) ts) w e) [
         | inl n ↦ alike_where (M w) (M (node (h.Term o) ts)) (by_number same o ts w n)
         | inr n ↦ by_memory (h.Term o) ts w n
       ]
     ]
-    step_keeps same (h.Form o) ts w f k = elim (either (memory_step (h.Form o) ts) (first_of_rules formula_rules (h.Form o) ts) w (sym (form_step bits o ts) ∙ k)) [
+    step_keeps same calls (h.Form o) ts w f k = elim (either (memory_step (h.Form o) ts) (first_of_rules formula_rules (h.Form o) ts) w (sym (form_step set o ts) ∙ k)) [
       | inl e ↦ by_memory (h.Form o) ts w e
       | inr e ↦ by_one formula_rules formulas_keep (h.Form o) ts w f e
     ]
-    step_keeps same head ts w f k = by_one other_rules others_keep head ts w f k
+    step_keeps same calls (h.App x) ts w f k = alike_where (M w) (M (node (h.App x) ts)) (calls (h.App x) ts w (sym (call_step set x ts) ∙ k) env)
+    step_keeps same calls head ts w f k = by_one other_rules others_keep head ts w f k

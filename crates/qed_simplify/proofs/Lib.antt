@@ -1,4 +1,5 @@
 pub mod Comparisons
+pub mod Calls
 pub mod Derived
 pub mod Existence
 pub mod Forms

@@ -6,6 +6,7 @@ use Rattle.qed_terms.specs.declared.head.Head.TheVariants as h
 use Rattle.qed_terms.specs.declared.head.TermOp.{TermOp}
 use Rattle.qed_terms.specs.declared.head.TermOp.TheVariants as op
 use Rattle.qed_terms.specs.declared.head.FormOp.TheVariants as rel
+use Rattle.qed_terms.specs.Setting.{Setting, is_regular}
 use Rattle.qed_terms.specs.Tree.{Tree, node, Trees, stop, more, list_of, head_of, kids_in, two, three, num, at_most, equal, not_of}
 use Rattle.qed_terms.specs.Operators.{is_zero}
 use Rattle.qed_terms.specs.Order.{same}
@@ -19,12 +20,14 @@ use Rattle.qed_numbers.proofs.Outcomes.{numbers_answer}
 use Rattle.qed_numbers.proofs.Tests.{then_some_is, either, AllOf, first_one}
 use Rattle.qed_memories.specs.Memories.{memory_step}
 use Rattle.qed_linear.proofs.Facts.{and_right}
-use Rattle.qed_simplify.proofs.Tables.{last_rules, junction_rules, formula_rules, other_rules, ruled, ruled_answers, op_step, form_step}
+use Rattle.qed_simplify.proofs.Tables.{last_rules, junction_rules, formula_rules, other_rules, ruled, ruled_answers, op_step, form_step, call_step}
+use Rattle.qed_calls.proofs.Keeps.{regular_functions}
+use Rattle.qed_simplify.proofs.Calls.{base_light}
 use Rattle.qed_simplify.proofs.MemoryWeights.{memory_light}
 use Rattle.qed_simplify.proofs.Weights.{Numbers, weight, weights, replaced_lighter}
 use Rattle.qed_simplify.proofs.Forms.{form_weight, subtract_weight, checked_weight, to_lin_weight, head_form_weight, all_weight, all_append, of_lin_weight, tighten_weight, divide_exact_weight, lead_positive_weight}
 
-module _ (bits : ℕ) where
+module _ (set : Setting) where
   module _ (e : Numbers) where
     abbrev W : Tree → ℕ
     W t = weight t e
@@ -302,22 +305,23 @@ module _ (bits : ℕ) where
     by_one : (rs : List Rule) → AllOf NoHeavier rs → (head : Head) (ts : Trees) (w : Tree) → first_of_rules rs head ts ≡ Some w → W w ≤ W (node head ts)
     by_one rs a head ts w k = let r = first_one NoHeavier rs a head ts w k in r.1.0 head ts w r.1.1
 
-    pub step_light : (head : Head) (ts : Trees) (w : Tree) → step bits (node head ts) ≡ Some w → W w ≤ W (node head ts)
-    step_light (h.Term o) ts w k = elim (either (sums_rule (h.Term o) ts) (first_some (ruled bits o ts) (memory_step (h.Term o) ts)) w (sym (op_step bits o ts) ∙ k)) [
+    pub step_light : is_regular set ≡ true → (head : Head) (ts : Trees) (w : Tree) → step set (node head ts) ≡ Some w → W w ≤ W (node head ts)
+    step_light regular (h.Term o) ts w k = elim (either (sums_rule (h.Term o) ts) (first_some (ruled set.long_bits o ts) (memory_step (h.Term o) ts)) w (sym (op_step set o ts) ∙ k)) [
       | inl q ↦ sums (h.Term o) ts w q
-      | inr q ↦ elim (either (ruled bits o ts) (memory_step (h.Term o) ts) w q) [
-        | inl r ↦ let a = outcome_weight o ts w (ruled_answers bits o ts w r) in omega (arith, a)
+      | inr q ↦ elim (either (ruled set.long_bits o ts) (memory_step (h.Term o) ts) w q) [
+        | inl r ↦ let a = outcome_weight o ts w (ruled_answers set.long_bits o ts w r) in omega (arith, a)
         | inr r ↦ memory_light e (h.Term o) ts w r
       ]
     ]
-    step_light (h.Form o) ts w k = elim (either (memory_step (h.Form o) ts) (first_of_rules formula_rules (h.Form o) ts) w (sym ((form_step bits) o ts) ∙ k)) [
+    step_light regular (h.Form o) ts w k = elim (either (memory_step (h.Form o) ts) (first_of_rules formula_rules (h.Form o) ts) w (sym ((form_step set) o ts) ∙ k)) [
       | inl q ↦ memory_light e (h.Form o) ts w q
       | inr q ↦ by_one formula_rules formulas_light (h.Form o) ts w q
     ]
-    step_light head ts w k = by_one other_rules others_light head ts w k
+    step_light regular (h.App x) ts w k = base_light set.logic [] e x ts w (regular_functions set regular) (sym (call_step set x ts) ∙ k)
+    step_light regular head ts w k = by_one other_rules others_light head ts w k
 
     -- at a quantifier it falls
-    pub forall_falls : (x : List ℕ) (t u f w : Tree) → (step bits) (node (h.Forall x) (three t u f)) ≡ Some w → W w < W (node (h.Forall x) (three t u f))
+    pub forall_falls : (x : List ℕ) (t u f w : Tree) → (step set) (node (h.Forall x) (three t u f)) ≡ Some w → W w < W (node (h.Forall x) (three t u f))
     forall_falls x t u f w k = elim (either (empty_rule true x t u f) _ w k) [
       | inl q ↦ empty_falls true x t u f w q
       | inr q ↦ elim (either (single_range_rule true x t u f) _ w q) [
@@ -326,7 +330,7 @@ module _ (bits : ℕ) where
       ]
     ]
 
-    pub exists_falls : (x : List ℕ) (t u f w : Tree) → (step bits) (node (h.Exists x) (three t u f)) ≡ Some w → W w < W (node (h.Exists x) (three t u f))
+    pub exists_falls : (x : List ℕ) (t u f w : Tree) → (step set) (node (h.Exists x) (three t u f)) ≡ Some w → W w < W (node (h.Exists x) (three t u f))
     exists_falls x t u f w k = elim (either (empty_rule false x t u f) _ w k) [
       | inl q ↦ empty_falls false x t u f w q
       | inr q ↦ elim (either (single_range_rule false x t u f) _ w q) [

@@ -4,6 +4,7 @@ use Rattle.qed_terms.specs.declared.head.Sort.{Sort}
 use Rattle.qed_terms.specs.declared.head.Sort.TheVariants as sort
 use Rattle.qed_terms.specs.declared.head.Head.TheVariants as h
 use Rattle.qed_terms.specs.Free.{is_free, free_among}
+use Rattle.qed_terms.specs.Setting.{Setting, is_regular}
 use Rattle.qed_terms.specs.Tree.{Tree, node, Trees, stop, more}
 use Rattle.qed_terms.specs.WellFormed.{same_sort}
 use Rattle.qed_numbers.proofs.Tests.{or_either}
@@ -14,7 +15,7 @@ use Rattle.qed_simplify.specs.Normal.{Normal, NormalFreeNames}
 use Rattle.qed_simplify.proofs.Existence.{normal_light}
 use Rattle.qed_simplify.proofs.Weights.{Numbers, with_number, least, weight, weights, range_weight, free_first, bound_at, grows}
 
-module _ (bits : ℕ) where
+module _ (set : Setting) (regular : is_regular set ≡ true) where
   -- a number where names and sorts agree, and else 0
   abbrev alone : List ℕ → Sort → ℕ → Numbers
   alone x s n = λ y r. cond (bytes_eq x y && same_sort s r) n 0
@@ -114,7 +115,7 @@ module _ (bits : ℕ) where
           absurd cc
       go y r q false e = omega arith
 
-  free_names_in : (t u : Tree) → Normal (step bits) t u → (x : List ℕ) (s : Sort) → is_free x s u ≡ true → is_free x s t ≡ true
+  free_names_in : (t u : Tree) → Normal (step set) t u → (x : List ℕ) (s : Sort) → is_free x s u ≡ true → is_free x s t ≡ true
   free_names_in t u d x s k = go (is_free x s t) refl
     where
       n : ℕ
@@ -127,9 +128,9 @@ module _ (bits : ℕ) where
       go true e = refl
       go false e =
           let a = free_weighs x s n u (alone x s n) (omega (arith, own)) k in
-          let b = (normal_light bits) d (alone x s n) in
+          let b = (normal_light set regular) d (alone x s n) in
           let c = unseen x s n t e in
           absurd (omega (arith, a, b, c))
 
 pub normal_free_names : NormalFreeNames
-normal_free_names bits t u d x s k = free_names_in bits t u d x s k
+normal_free_names set t u regular d x s k = free_names_in set regular t u d x s k

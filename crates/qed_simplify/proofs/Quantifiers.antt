@@ -6,6 +6,7 @@ use Rattle.qed_terms.specs.declared.head.Head.TheVariants as h
 use Rattle.qed_terms.specs.declared.head.TermOp.{TermOp}
 use Rattle.qed_terms.specs.declared.head.TermOp.TheVariants as op
 use Rattle.qed_terms.specs.declared.head.FormOp.TheVariants as rel
+use Rattle.qed_terms.specs.Setting.{Setting, is_regular}
 use Rattle.qed_terms.specs.Tree.{Tree, node, Trees, stop, more, trees_of, list_of, head_of, kids_in, two, three, num, at_most, equal, not_of}
 use Rattle.qed_terms.specs.Operators.{is_zero}
 use Rattle.qed_terms.specs.Order.{same}
@@ -20,16 +21,16 @@ use Rattle.qed_terms.specs.declared.head.Sort.TheVariants as sort
 use Rattle.qed_terms.specs.Meaning.{World, Values, Value, Whole, Truth, Cells, Blocks, term_value, meaning, meanings}
 use Rattle.qed_memories.specs.Alike.{Alike}
 use Rattle.qed_memories.specs.Memories.{memory_step}
-use Rattle.qed_terms.specs.Setting.{no_apps}
 use Rattle.qed_terms.specs.Setting as setting
 use Rattle.qed_substitution.specs.Substitution.{replace_all}
-use Rattle.qed_simplify.specs.Normal.{Normal, Normals, stays, changes, nothing, each, quantifiers, all_quantifiers, NormalQuantifiers}
+use Rattle.qed_simplify.specs.Normal.{Suits, Normal, Normals, stays, changes, nothing, each, quantifiers, all_quantifiers, NormalQuantifiers}
+use Rattle.qed_simplify.proofs.Calls.{setting_suits}
 use Rattle.qed_simplify.proofs.Derived.{AllFixed, normals-fixed}
 use Rattle.qed_simplify.proofs.Keeps.{step_keeps}
 use Rattle.qed_simplify.proofs.MemoryWeights.{memory_plain}
 use Rattle.qed_simplify.proofs.Tables.{last_rules, junction_rules, formula_rules, form_step}
 
-module _ (bits : ℕ) where
+module _ (set : Setting) (regular : is_regular set ≡ true) where
   abbrev Q : Tree → ℕ
   Q = quantifiers
 
@@ -63,16 +64,19 @@ module _ (bits : ℕ) where
   term_alike (Cells m) w a i = tt
   term_alike (Blocks t) w a i = tt
 
-  -- any world and values serve
+  -- any values serve, and any world that suits the setting
   abbrev some_world : World
-  some_world = record { long_bits = bits; apps = no_apps }
+  some_world = setting.world_of set
+
+  suits : Suits set some_world
+  suits = setting_suits set regular
 
   zeros : Values
   zeros = setting.nothing
 
   -- what is made of a term
-  of_term : (head : Head) (ts : Trees) (w : Tree) → AllFixed (step bits) ts → (step bits) (node head ts) ≡ Some w → IsTerm (meaning some_world zeros (node head ts)) → Q w ≡ 0
-  of_term head ts w f k i = term_none some_world zeros w (meaning some_world zeros w) refl (term_alike (meaning some_world zeros w) (meaning some_world zeros (node head ts)) (step_keeps bits some_world zeros refl head ts w f k) i)
+  of_term : (head : Head) (ts : Trees) (w : Tree) → AllFixed (step set) ts → (step set) (node head ts) ≡ Some w → IsTerm (meaning some_world zeros (node head ts)) → Q w ≡ 0
+  of_term head ts w f k i = term_none some_world zeros w (meaning some_world zeros w) refl (term_alike (meaning some_world zeros w) (meaning some_world zeros (node head ts)) (step_keeps set some_world zeros suits.width suits.calls head ts w f k) i)
 
   -- ---- the rules of formulas
 
@@ -322,13 +326,13 @@ module _ (bits : ℕ) where
   by_one : (head : Head) (ts : Trees) (w : Tree) → first_of_rules formula_rules head ts ≡ Some w → Q w ≤ Q (node head ts)
   by_one head ts w k = let r = first_one NoMore formula_rules formulas_none_more head ts w k in r.1.0 head ts w r.1.1
 
-  step_none_more : (head : Head) (ts : Trees) (w : Tree) → AllFixed (step bits) ts → (step bits) (node head ts) ≡ Some w → Q w ≤ Q (node head ts)
+  step_none_more : (head : Head) (ts : Trees) (w : Tree) → AllFixed (step set) ts → (step set) (node head ts) ≡ Some w → Q w ≤ Q (node head ts)
   step_none_more (h.Num z) ts w f k = let a = of_term (h.Num z) ts w f k tt in omega (arith, a)
   step_none_more (h.Var x s) ts w f k = absurd cc
   step_none_more (h.Term o) ts w f k = let a = of_term (h.Term o) ts w f k (term_is some_world o (meanings some_world zeros ts)) in omega (arith, a)
   step_none_more h.Ite ts w f k = let a = of_term h.Ite ts w f k tt in omega (arith, a)
-  step_none_more (h.App g) ts w f k = absurd cc
-  step_none_more (h.Form o) ts w f k = elim (either (memory_step (h.Form o) ts) (first_of_rules formula_rules (h.Form o) ts) w (sym ((form_step bits) o ts) ∙ k)) [
+  step_none_more (h.App g) ts w f k = let a = of_term (h.App g) ts w f k tt in omega (arith, a)
+  step_none_more (h.Form o) ts w f k = elim (either (memory_step (h.Form o) ts) (first_of_rules formula_rules (h.Form o) ts) w (sym ((form_step set) o ts) ∙ k)) [
     | inl e ↦ let a = memory_plain o ts w e in omega (arith, a)
     | inr e ↦ by_one (h.Form o) ts w e
   ]
@@ -345,17 +349,17 @@ module _ (bits : ℕ) where
   node_none_more head ts us k = omega arith
 
   mutual
-    none_more : {t u : Tree} → Normal (step bits) t u → Q u ≤ Q t
+    none_more : {t u : Tree} → Normal (step set) t u → Q u ≤ Q t
     none_more (stays {head} {ts} {us} ks e) = node_none_more head ts us (all_none_more ks)
     none_more (changes {head} {ts} {us} {w} ks e d) =
         let a = none_more d in
-        let b = step_none_more head us w (normals-fixed (step bits) ks) e in
+        let b = step_none_more head us w (normals-fixed (step set) ks) e in
         let c = node_none_more head ts us (all_none_more ks) in
         omega (arith, a, b, c)
 
-    all_none_more : {ts us : Trees} → Normals (step bits) ts us → all_quantifiers us ≤ all_quantifiers ts
+    all_none_more : {ts us : Trees} → Normals (step set) ts us → all_quantifiers us ≤ all_quantifiers ts
     all_none_more nothing = omega arith
     all_none_more (each d ds) = let a = none_more d in let b = all_none_more ds in omega (arith, a, b)
 
 pub normal_quantifiers : NormalQuantifiers
-normal_quantifiers bits t u d = none_more bits d
+normal_quantifiers set t u regular d = none_more set regular d

@@ -6,7 +6,9 @@ use Rattle.qed_terms.specs.declared.head.Head.TheVariants as h
 use Rattle.qed_terms.specs.declared.head.TermOp.{TermOp}
 use Rattle.qed_terms.specs.declared.head.TermOp.TheVariants as op
 use Rattle.qed_terms.specs.declared.head.FormOp.{FormOp}
+use Rattle.qed_terms.specs.Setting.{Setting}
 use Rattle.qed_terms.specs.Tree.{Tree, node, Trees, stop, more}
+use Rattle.qed_calls.specs.Calls.{base_of}
 use Rattle.qed_numbers.specs.Numbers.{number_at, long_number, long_rule, number_rules, number_step}
 use Rattle.qed_numbers.specs.Laws.{Outcome}
 use Rattle.qed_numbers.proofs.Outcomes.{numbers_answer}
@@ -57,11 +59,15 @@ ruled_answers bits o ts w k = elim (either (number_step (h.Term o) ts) (long_rul
 ]
 
 -- an operator's form comes first, then the rules on numbers, then those on memories and tables
-pub op_step : (bits : ℕ) (o : TermOp) (ts : Trees) → step bits (node (h.Term o) ts) ≡ first_some (sums_rule (h.Term o) ts) (first_some (ruled bits o ts) (memory_step (h.Term o) ts))
-op_step bits o ts =
-    let numbers = first_of_both number_rules (long_rule bits ∷ []) (h.Term o) ts ∙ ap (first_some (number_step (h.Term o) ts)) (or_none (long_rule bits (h.Term o) ts)) in
-    ap (first_some (sums_rule (h.Term o) ts)) (first_of_both (number_rules ++ long_rule bits ∷ []) memory_rules (h.Term o) ts ∙ ap (λ p. first_some p (memory_step (h.Term o) ts)) numbers)
+pub op_step : (set : Setting) (o : TermOp) (ts : Trees) → step set (node (h.Term o) ts) ≡ first_some (sums_rule (h.Term o) ts) (first_some (ruled set.long_bits o ts) (memory_step (h.Term o) ts))
+op_step set o ts =
+    let numbers = first_of_both number_rules (long_rule set.long_bits ∷ []) (h.Term o) ts ∙ ap (first_some (number_step (h.Term o) ts)) (or_none (long_rule set.long_bits (h.Term o) ts)) in
+    ap (first_some (sums_rule (h.Term o) ts)) (first_of_both (number_rules ++ long_rule set.long_bits ∷ []) memory_rules (h.Term o) ts ∙ ap (λ p. first_some p (memory_step (h.Term o) ts)) numbers)
 
 -- at a relation those on tables come first
-pub form_step : (bits : ℕ) (o : FormOp) (ts : Trees) → step bits (node (h.Form o) ts) ≡ first_some (memory_step (h.Form o) ts) (first_of_rules formula_rules (h.Form o) ts)
-form_step bits o ts = first_of_both memory_rules formula_rules (h.Form o) ts
+pub form_step : (set : Setting) (o : FormOp) (ts : Trees) → step set (node (h.Form o) ts) ≡ first_some (memory_step (h.Form o) ts) (first_of_rules formula_rules (h.Form o) ts)
+form_step set o ts = first_of_both memory_rules formula_rules (h.Form o) ts
+
+-- and at a call the rule on calls alone
+pub call_step : (set : Setting) (x : List ℕ) (ts : Trees) → step set (node (h.App x) ts) ≡ base_of set.logic x ts
+call_step set x ts = or_none (base_of set.logic x ts)

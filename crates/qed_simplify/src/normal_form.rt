@@ -1,27 +1,47 @@
 // The normal form of a formula, and its laws.
-ghost use Rattle.std.specs.Prelude.{◌≡◌, IfOk};
+ghost use Rattle.std.specs.Prelude.{◌≡◌, true, IfOk};
 ghost use Rattle.qed_terms.specs.Meaning.{World, Values, truth};
-ghost use Rattle.qed_terms.specs.View.{formula_tree};
-ghost use Rattle.qed_memories.specs.Alike.{RespectsAlike};
+ghost use Rattle.qed_terms.specs.Setting.{is_regular};
+ghost use Rattle.qed_terms.specs.View.{formula_tree, view_setting};
 ghost use Rattle.qed_rules.specs.Rules.{step};
-ghost use Rattle.qed_simplify.specs.Normal.{EachHasNormal, Normal, NormalFreeNames, NormalIsOne, NormalIsSettled, NormalKeepsMeaning, NormalQuantifiers};
+ghost use Rattle.qed_simplify.specs.Normal.{EachHasNormal, Normal, NormalFreeNames, NormalIsOne, NormalIsSettled, NormalKeepsMeaning, NormalQuantifiers, PlainSettingsAreRegular, PlainWorldsSuit, SettingsSuit, Suits, plain};
 
 use crate::walk::normalise;
-use qed_terms::Formula;
+use qed_terms::{Formula, Setting};
 use std::alloc::Global;
-use wp_base::NoMemory;
+use wp_base::{List, NoMemory};
 
-/// The normal form of a formula: kids first, from the left, and at each node the first rule of the table that changes
-/// it, whose result is brought to normal form in the same way; `long` has so many bits.
-pub fn normal(alloc: Global, formula: &Formula, long_bits: u8) -> Result<Formula, NoMemory>
-    ensures normal { IfOk result (λ r. Normal (step long_bits) (formula_tree formula.now) (formula_tree r)) }
-    ensures same { IfOk result (λ r. (w : World) → w.long_bits ≡ long_bits → RespectsAlike w → (env : Values) → truth w env (formula_tree r) ≡ truth w env (formula_tree formula.now)) }
+/// The normal form of a formula in a regular setting: kids first, from the left, and at each node the first rule of the table
+/// that changes it, whose result is brought to normal form in the same way.
+pub fn normal(alloc: Global, formula: &Formula, world: &Setting) -> Result<Formula, NoMemory>
+    requires { is_regular (view_setting world.now) ≡ true }
+    ensures normal { IfOk result (λ r. Normal (step (view_setting world.now)) (formula_tree formula.now) (formula_tree r)) }
+    ensures same { IfOk result (λ r. (w : World) → Suits (view_setting world.now) w → (env : Values) → truth w env (formula_tree r) ≡ truth w env (formula_tree formula.now)) }
 {
-    let normal = normalise(alloc, long_bits, formula)?;
+    let normal = normalise(alloc, world, formula)?;
     Ok(normal)
 }
 
-/// Each tree has a normal form.
+/// The normal form of a formula by no logic functions, where `long` has 64 bits.
+pub fn normal_plain(alloc: Global, formula: &Formula) -> Result<Formula, NoMemory>
+    ensures { IfOk result (λ r. Normal (step (plain 64)) (formula_tree formula.now) (formula_tree r)) }
+{
+    let world = plain_setting(alloc, 64);
+    let normal = normal(alloc, formula, &world)?;
+    Ok(normal)
+}
+
+/// A setting without logic functions.
+pub fn plain_setting(alloc: Global, long_bits: u8) -> Setting
+    ensures { view_setting result ≡ plain long_bits }
+{
+    Setting {
+        long_bits,
+        logic: List::new(alloc),
+    }
+}
+
+/// Each tree has a normal form in a regular setting.
 pub fn each_has_normal()
     ensures { EachHasNormal }
 {}
@@ -49,4 +69,19 @@ pub fn normal_quantifiers()
 /// A normal form means what the tree means, where logic functions don't tell memories apart that hold the same.
 pub fn normal_keeps_meaning()
     ensures { NormalKeepsMeaning }
+{}
+
+/// The world of a regular setting suits it: its normal forms mean what their trees mean there.
+pub fn settings_suit()
+    ensures { SettingsSuit }
+{}
+
+/// A setting without logic functions is suited by each world of its width that doesn't tell memories apart that hold the same.
+pub fn plain_worlds_suit()
+    ensures { PlainWorldsSuit }
+{}
+
+/// A setting without logic functions is regular.
+pub fn plain_settings_are_regular()
+    ensures { PlainSettingsAreRegular }
 {}

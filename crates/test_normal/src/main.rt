@@ -3,7 +3,7 @@
 #![tactic(auto)]
 
 use goal_text::{GoalText, read_goal, write_goal};
-use qed_simplify::normal;
+use qed_simplify::normal_plain;
 use qed_terms::{Formula, Goal};
 use std::alloc::Global;
 use std::io;
@@ -12,7 +12,7 @@ use wp_base::{List, NoMemory, Str};
 
 fn normal_of(alloc: Global, goal: &Goal) -> Result<Formula, NoMemory> {
     let formula = goal.formula(alloc)?;
-    normal(alloc, &formula, 64)
+    normal_plain(alloc, &formula)
 }
 
 fn text_of(alloc: Global, check: Formula) -> Result<Str, NoMemory> {

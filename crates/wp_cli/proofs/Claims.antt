@@ -13,7 +13,7 @@ use Rattle.qed_terms.specs.declared.verdict.Verdict.{Verdict}
 use Rattle.qed_terms.specs.declared.verdict.Verdict.TheVariants as verdict
 use Rattle.qed_terms.specs.Tree.{Tree, true_tree}
 use Rattle.qed_terms.specs.Setting.{Valid}
-use Rattle.qed_simplify.proofs.Laws.{proved_valid}
+use Rattle.qed_simplify.proofs.Laws.{plain_settings, proved_valid}
 use Rattle.core_prog.specs.Names.{all_differ, is_well_named, is_well_named_program}
 use Rattle.core_prog.specs.Tree.{Program, Function}
 use Rattle.c_front.specs.Text.{Spells}
@@ -50,14 +50,14 @@ verdict_at shows gs js j g k all m n = (each_at (λ (g : Goal) (j : Judged). IsJ
 
 pub valid : (shows : Bool) (p : Program) (rs : List Reported) → IsReportOf shows p rs → ProvedGoalsAreValid p rs
 valid shows p rs a i j f r g k m n gm kn e =
-    proved_valid plain_setting (formula_of g) (called_proved k.verdict (formula_of g) (ap is_proved e) (verdict_at shows (goals f) r.goals j g k (goals_of shows p rs i f r a m n) gm kn))
+    proved_valid plain_setting (formula_of g) plain_settings.1 (called_proved k.verdict (formula_of g) (ap is_proved e) (verdict_at shows (goals f) r.goals j g k (goals_of shows p rs i f r a m n) gm kn))
 
 none_fails : (shows : Bool) (f : Function) (js : List Judged) → is_well_named f ≡ true → AreJudged shows (goals f) js → goals_proved js ≡ true → (j : ℕ) → NoneFailsAt f j
 none_fails shows f js w a all j args fails =
     let g = failures_have_goals f w j args fails in
     let k = partner_at (λ (g : Goal) (j : Judged). IsJudged shows g.place g.known g.claim j) (goals f) js j g.0 a g.1 in
     let e = all_at (λ (k : Judged). is_proved k.verdict) js j k.0 all k.1 in
-    let v = proved_valid plain_setting (formula_of g.0) (called_proved k.0.verdict (formula_of g.0) e (verdict_at shows (goals f) js j g.0 k.0 a g.1 k.1)) in
+    let v = proved_valid plain_setting (formula_of g.0) plain_settings.1 (called_proved k.0.verdict (formula_of g.0) e (verdict_at shows (goals f) js j g.0 k.0 a g.1 k.1)) in
     (goals_are_exact f w j g.0 g.1).sound v args fails
 
 well_named : (p : Program) (i : ℕ) (f : Function) → is_well_named_program p ≡ true → slice_get p i ≡ Some f → is_well_named f ≡ true

@@ -13,7 +13,7 @@ use Rattle.core_prog.specs.Tree.{Function, Program}
 use Rattle.c_front.specs.Text.{Spells}
 use Rattle.c_front.specs.Text as front
 use Rattle.qed_rules.specs.Rules.{step}
-use Rattle.qed_simplify.specs.Normal.{Normal}
+use Rattle.qed_simplify.specs.Normal.{Normal, plain}
 use Rattle.goal_text.specs.Text.{goal_text}
 use Rattle.wp_calculus.specs.Segments.{Place}
 use Rattle.wp_calculus.specs.Goals.{Goal, goals}
@@ -23,7 +23,7 @@ use Rattle.wp_cli.specs.Report.{Judged, Reported, all_proved, report_text, refus
 
 -- the normal form of the formula is `true`; `long` has 64 bits, as in the setting of goals
 abbrev pub IsProved : Tree → Type 0
-IsProved formula = Normal (step 64) formula true_tree
+IsProved formula = Normal (step (plain 64)) formula true_tree
 
 -- A goal is called proved exactly where it is, and else unknown for want of more; none is given up for its size or its branches.
 abbrev pub IsVerdict : Verdict → Tree → Type 0

@@ -10,7 +10,7 @@ ghost use Rattle.wp_cli.specs.ReportView as report;
 use crate::report::{FunctionReport, Report, ReportGoal};
 use core_prog::{Core, Function};
 use goal_text::write_goal;
-use qed_simplify::normal;
+use qed_simplify::normal_plain;
 use qed_terms::{Goal, Verdict};
 use std::alloc::Global;
 use wp_base::{List, NoMemory, Str};
@@ -21,7 +21,7 @@ fn verdict_of(alloc: Global, goal: &Goal) -> Result<Verdict, NoMemory>
     ensures { IfOk result (λ verdict. IsVerdict verdict (goal_tree goal.now)) }
 {
     let formula = goal.formula(alloc)?;
-    let normal = normal(alloc, &formula, 64)?;
+    let normal = normal_plain(alloc, &formula)?;
     if normal.is_true() {
         return Ok(Verdict::Proved);
     }

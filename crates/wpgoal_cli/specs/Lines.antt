@@ -7,7 +7,7 @@ use Rattle.wp_base.specs.declared.answers.Status.TheVariants as status
 use Rattle.qed_terms.specs.Tree.{Tree}
 use Rattle.qed_terms.specs.WellFormed.{is_goal}
 use Rattle.qed_rules.specs.Rules.{step}
-use Rattle.qed_simplify.specs.Normal.{Normal}
+use Rattle.qed_simplify.specs.Normal.{Normal, plain}
 use Rattle.goal_text.specs.Held.{goal_held}
 use Rattle.goal_text.specs.Text.{tree_text}
 
@@ -36,7 +36,7 @@ IsNoFormula text = (formula : Tree) → is_goal [] formula ≡ true → goal_hel
 
 -- what is answered to the text of a formula: that of its normal form, where `long` has 64 bits, or its own
 abbrev pub Shows : (normal : Bool) → (formula shown : Tree) → Type 0
-Shows true formula shown = Normal (step 64) formula shown
+Shows true formula shown = Normal (step (plain 64)) formula shown
 Shows false formula shown = shown ≡ formula
 
 pub record AnswersLine (normal : Bool) (line answer : List ℕ) : Type 0 where

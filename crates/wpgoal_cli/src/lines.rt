@@ -6,7 +6,7 @@ ghost use Rattle.wpgoal_cli.specs.Lines.{Answers, AnswersLine, IsLine, IsNoFormu
 use crate::formulas::{formula_text, read_formula};
 use goal_text::GoalText;
 use itoa::Buffer;
-use qed_simplify::normal;
+use qed_simplify::normal_plain;
 use qed_terms::Formula;
 use std::alloc::Global;
 use wp_base::{NoMemory, Status, Str};
@@ -38,7 +38,7 @@ fn shown(alloc: Global, is_normal: bool, formula: Formula) -> Result<Formula, No
     ensures { IfOk result (λ shown. Shows is_normal (formula_tree formula) (formula_tree shown)) }
 {
     if is_normal {
-        return normal(alloc, &formula, 64);
+        return normal_plain(alloc, &formula);
     }
     Ok(formula)
 }

@@ -1,12 +1,11 @@
 -- The operators of a run beside those on constants.
-use Rattle.std.proofs.Common.{◌≡◌, ℕ, zero, suc, ◌-◌, ◌^◌, ℤ, pos, negsuc, ◌+ℤ◌, ◌-ℤ◌, ◌*ℤ◌, ◌≤ℤ◌, neg_ℤ, Bool, true, false, not, ◌&&◌, Option, Some, None, refl, sym, ap, ◌∙◌, subst, arith}
-use Rattle.std.specs.Prelude.{if◌then◌else◌, int_le, int_lt, int_div, int_rem, unsigned_abs}
+use Rattle.std.proofs.Common.{◌≡◌, ℕ, suc, ◌-◌, ◌^◌, ℤ, pos, negsuc, ◌+ℤ◌, ◌-ℤ◌, ◌*ℤ◌, neg_ℤ, Bool, true, false, not, ◌&&◌, Option, Some, None, refl, sym, ap, ◌∙◌, arith}
+use Rattle.std.specs.Prelude.{if◌then◌else◌, int_le, int_lt, int_div, int_rem}
 use Rattle.std.specs.Int.Bits.{bit_and, bit_or, bit_xor}
 use Rattle.std.specs.Ordering.{int_eq}
 use Rattle.std.proofs.lemmas.Int.{ints}
 use Rattle.wp_base.specs.declared.kinds.Kind.{Kind}
 use Rattle.wp_base.specs.Kinds.{is_signed, floor_div}
-use Rattle.wp_base.specs.Blocks.{to_nat}
 use Rattle.c_kinds.specs.declared.models.Machdep.{Machdep}
 use Rattle.c_kinds.specs.Models.{low, high, holds}
 use Rattle.c_kinds.specs.Numbers as n
@@ -19,8 +18,8 @@ use Rattle.typed_prog.specs.declared.operators.Comparison.TheVariants as cmp
 use Rattle.qed_terms.specs.Operators.{is_zero, is_equal}
 use Rattle.acsl_truth.specs.States.{number}
 use Rattle.acsl_truth.specs.Truth.{compare}
-use Rattle.c_runs.specs.Operators.{Undefined, overflow, divzero, shift, Val, is, wrong, where_true, truth_number, within, fits, may_shift, may_shift_left, may_divide, arithmetic, computed, negated, complement}
-use Rattle.c_runs.specs.Laws.{on_constants, test_of_constants, number_in, may_be_second, SameOnConstants, OperatorsAreThoseOfConstants}
+use Rattle.c_runs.specs.Operators.{Undefined, overflow, divzero, shift, Val, is, where_true, truth_number, within, fits, may_shift, may_divide, arithmetic, computed, negated, complement}
+use Rattle.c_runs.specs.Laws.{on_constants, test_of_constants, number_in, may_be_second, OperatorsAreThoseOfConstants}
 use Rattle.c_runs.proofs.Numbers.{equal_is, zero_is, natural_held, signed_quotient, unsigned_quotient}
 
 -- ---- checks and options

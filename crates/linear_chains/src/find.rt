@@ -13,8 +13,8 @@ use wp_base::NoMemory;
 /// A negative chain of links or a short sum, where there is one.
 ///
 /// The search for a chain is checked and not proved: where neither its numbers meet all links nor its circle is a chain, the answer is want of
-/// memory. That is so, too, of a coefficient, a sum of two coefficients or a sum of bounds beyond 128 bits. Neither comes of links whose numbers
-/// are at most 2^96 in size, as far as tests show.
+/// memory. That is so, too, of a coefficient, a sum of two coefficients or a sum of bounds beyond 128 bits. That neither comes of links
+/// whose numbers are at most 2^96 in size is not proved.
 pub fn refutation(alloc: Global, links: &[LinkForm]) -> Result<Option<Refutation>, NoMemory>
     requires { AreOrdered (map link_of links.now) }
     ensures { IfOk result (λ o. Answers (map link_of links.now) o) }

@@ -1,5 +1,5 @@
 -- The checks of an expression beside its evaluation.
-use Rattle.std.proofs.Common.{◌≡◌, ℕ, zero, suc, Bool, true, false, ◌&&◌, List, [], ◌∷◌, ◌++◌, refl, sym, ap, ◌∙◌}
+use Rattle.std.proofs.Common.{◌≡◌, ℕ, suc, Bool, true, false, List, [], ◌∷◌, refl, sym, ap, ◌∙◌}
 use Rattle.std.specs.Prelude.{map}
 use Rattle.std.proofs.lemmas.Bool.{and_parts, false≢true}
 use Rattle.typed_prog.specs.declared.types.CoreType.{CoreType}
@@ -7,10 +7,10 @@ use Rattle.typed_prog.specs.Tree as t
 use Rattle.acsl_truth.specs.States.{Value}
 use Rattle.c_runs.specs.Program.{Facts, Variable}
 use Rattle.c_runs.specs.States.{World}
-use Rattle.c_runs.specs.Operators.{Undefined, Val, is, wrong}
-use Rattle.c_runs.specs.Values.{Temps, Vals, are, wrongs, with_vals, applied, node_value, value, values}
+use Rattle.c_runs.specs.Operators.{Undefined, is, wrong}
+use Rattle.c_runs.specs.Values.{Temps, are, wrongs, with_vals, applied, node_value, value, values}
 use Rattle.rte_checks.specs.Checks.{Check, in_operand, bump, later, op_checks, node_checks, checks_of, all_checks, is_pure_node, is_pure, are_pure}
-use Rattle.rte_checks.specs.Tests.{total_applied, total_node, total, totals, node_holds, holds_at, holds_in, is_met}
+use Rattle.rte_checks.specs.Tests.{total_applied, total_node, total, totals, holds_in, is_met}
 use Rattle.rte_checks.specs.Laws.{settle, Checked}
 use Rattle.rte_checks.proofs.Settling.{settle_append, settle_map, push_settle, with_settle}
 use Rattle.rte_checks.proofs.Operators.{op_settle}

@@ -1,35 +1,31 @@
 -- Each check of the table with operands for which it isn't met.
 use Rattle.std.proofs.Common.{◌≡◌, ℕ, zero, suc, ◌+◌, ◌<◌, ◌==◌, Bool, true, false, not, ◌&&◌, ◌||◌, List, [], ◌∷◌, ◌++◌, length, refl, sym, ap, ◌∙◌, subst, arith, ℤ, pos, negsuc, neg_ℤ, ◌+ℤ◌, ◌-ℤ◌, ◌*ℤ◌, Option, Some, None}
-use Rattle.std.specs.Prelude.{if◌then◌else◌, nat_lt, int_le, int_lt, slice_get}
+use Rattle.std.specs.Prelude.{if◌then◌else◌, nat_lt, slice_get}
 use Rattle.std.specs.List.{list_all}
 use Rattle.std.proofs.lemmas.Bool.{and_parts}
 use Rattle.std.proofs.lemmas.Bool.Decides.{Decides-eqb, nat_tests}
 use Rattle.wp_base.specs.declared.kinds.Kind.{Kind}
 use Rattle.wp_base.specs.declared.kinds.CellKind.{CellKind}
 use Rattle.wp_base.specs.Kinds.{is_signed}
-use Rattle.wp_base.specs.Blocks.{Table, block_at, is_live, is_cell}
+use Rattle.wp_base.specs.Blocks.{block_at, is_live, is_cell}
 use Rattle.c_kinds.specs.declared.models.Machdep.TheVariants as model
-use Rattle.c_kinds.specs.Models.{low, holds}
-use Rattle.c_kinds.specs.Numbers.{bits}
+use Rattle.c_kinds.specs.Models.{low}
 use Rattle.c_kinds.proofs.Ranking.{every_kind, for_each, where_signed}
 use Rattle.typed_prog.specs.declared.types.CoreType.{CoreType}
-use Rattle.typed_prog.specs.declared.operators.Arithmetic.{Arithmetic}
-use Rattle.typed_prog.specs.declared.operators.Arithmetic.TheVariants as ar
-use Rattle.typed_prog.specs.declared.operators.Op.{Op}
 use Rattle.typed_prog.specs.declared.operators.Op.TheVariants as op
 use Rattle.typed_prog.specs.declared.operators.Path.{Path}
 use Rattle.typed_prog.specs.declared.operators.Step.{Step}
 use Rattle.typed_prog.specs.declared.operators.Step.TheVariants as step
 use Rattle.typed_prog.specs.Tree as t
-use Rattle.qed_terms.specs.Operators.{is_zero, is_equal}
+use Rattle.qed_terms.specs.Operators.{is_equal}
 use Rattle.acsl_truth.specs.States.{Value, number, number_of, block_of, offset_of}
 use Rattle.acsl_truth.specs.Truth.{value_at}
 use Rattle.c_runs.specs.Program.{Facts, Variable}
-use Rattle.c_runs.specs.States.{World, Memory, no_locals}
-use Rattle.c_runs.specs.Operators.{Undefined, init, overflow, divzero, shift, access, index, pointing, comparing, fits, may_shift, may_point, may_compare, is_order}
-use Rattle.c_runs.specs.Objects.{plain_root, has_value, is_pointed, is_sure, cell_of, address, is_index}
-use Rattle.c_runs.specs.Values.{kind_at, Temps}
-use Rattle.rte_checks.specs.Checks.{Check, here, one_if, read_checks_by, index_checks, may_be_minus_one, op_checks}
+use Rattle.c_runs.specs.States.{World, no_locals}
+use Rattle.c_runs.specs.Operators.{Undefined, init, access, index, fits, may_point, may_compare}
+use Rattle.c_runs.specs.Objects.{plain_root, has_value, is_pointed, cell_of, address, is_index}
+use Rattle.c_runs.specs.Values.{Temps}
+use Rattle.rte_checks.specs.Checks.{Check, here, one_if, read_checks_by, index_checks}
 use Rattle.rte_checks.specs.Tests.{totals, step_test, read_test_by, op_test, is_met}
 use Rattle.rte_checks.specs.Failing.{temporaries_from, temporaries, is_index_of, are_apart, CanFail, EachOf}
 

@@ -1,5 +1,5 @@
 -- No check of the table is idle.
-use Rattle.std.proofs.Common.{◌≡◌, ℕ, zero, suc, ◌==◌, Bool, true, false, not, ◌&&◌, ◌||◌, List, [], ◌∷◌, ◌++◌, refl, sym, ap, ◌∙◌, subst, ℤ, pos, negsuc, neg_ℤ, ◌+ℤ◌, ◌-ℤ◌, ◌*ℤ◌, Option, Some, None}
+use Rattle.std.proofs.Common.{◌≡◌, ℕ, Bool, true, false, not, ◌&&◌, ◌||◌, List, [], ◌∷◌, refl, sym, ap, subst, ℤ, pos, negsuc}
 use Rattle.std.specs.Prelude.{if◌then◌else◌}
 use Rattle.std.specs.List.{list_all}
 use Rattle.std.proofs.lemmas.Bool.{and_parts}
@@ -14,19 +14,18 @@ use Rattle.typed_prog.specs.declared.operators.Arithmetic.{Arithmetic}
 use Rattle.typed_prog.specs.declared.operators.Arithmetic.TheVariants as ar
 use Rattle.typed_prog.specs.declared.operators.Op.{Op}
 use Rattle.typed_prog.specs.declared.operators.Op.TheVariants as op
-use Rattle.typed_prog.specs.declared.operators.Path.{Path}
 use Rattle.typed_prog.specs.Tree as t
 use Rattle.qed_terms.specs.Operators.{is_zero, is_equal}
 use Rattle.acsl_truth.specs.States.{Value}
 use Rattle.acsl_truth.specs.Truth.{first, second}
-use Rattle.c_runs.specs.Program.{Facts, Variable}
-use Rattle.c_runs.specs.Operators.{overflow, divzero, shift, pointing, comparing, may_shift, may_shift_left, may_divide, is_order}
+use Rattle.c_runs.specs.Program.{Variable}
+use Rattle.c_runs.specs.Operators.{overflow, divzero, shift, pointing, comparing, may_shift, may_divide, is_order}
 use Rattle.c_runs.specs.Objects.{plain_root, is_sure, address}
-use Rattle.c_runs.specs.Values.{kind_at, moved_in, Temps}
-use Rattle.rte_checks.specs.Checks.{Check, here, one_if, may_be_minus_one}
-use Rattle.rte_checks.specs.Tests.{totals, op_test, is_met}
-use Rattle.rte_checks.specs.Failing.{temporaries, and_constant, may_have, CanFail, EachOf, EachAt, divides, EachCanFail, NoneIsIdle}
-use Rattle.rte_checks.proofs.Failing.{some_facts, no_blocks, holding, all_zero, none_pointed, none_compared, each_if, none_before, least, Overflows, overflowing, read_each}
+use Rattle.c_runs.specs.Values.{kind_at, moved_in}
+use Rattle.rte_checks.specs.Checks.{here, one_if}
+use Rattle.rte_checks.specs.Tests.{totals, op_test}
+use Rattle.rte_checks.specs.Failing.{temporaries, and_constant, may_have, EachAt, divides, NoneIsIdle}
+use Rattle.rte_checks.proofs.Failing.{some_facts, no_blocks, holding, all_zero, none_pointed, none_compared, each_if, none_before, least, overflowing, read_each}
 
 -- ---- integers
 

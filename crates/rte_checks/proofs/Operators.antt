@@ -1,6 +1,6 @@
 -- Each operator on the values of its operands, beside its checks.
-use Rattle.std.proofs.Common.{◌≡◌, ℕ, zero, suc, ◌+◌, Bool, true, false, not, ◌&&◌, ◌||◌, List, [], ◌∷◌, ◌++◌, refl, sym, ap, ◌∙◌, subst, arith, ℤ, pos, negsuc, neg_ℤ, ◌+ℤ◌, ◌-ℤ◌, ◌*ℤ◌, Option, Some, None}
-use Rattle.std.specs.Prelude.{if◌then◌else◌, slice_get, int_div, int_rem}
+use Rattle.std.proofs.Common.{◌≡◌, ℕ, suc, ◌+◌, Bool, true, false, not, ◌&&◌, ◌||◌, List, [], ◌∷◌, ◌++◌, refl, ap, ◌∙◌, arith, ℤ, negsuc, ◌+ℤ◌, ◌-ℤ◌, ◌*ℤ◌, Option, Some, None}
+use Rattle.std.specs.Prelude.{if◌then◌else◌, slice_get}
 use Rattle.wp_base.specs.declared.kinds.Kind.{Kind}
 use Rattle.wp_base.specs.Kinds.{is_signed}
 use Rattle.c_kinds.specs.declared.models.Machdep.{Machdep}
@@ -16,14 +16,14 @@ use Rattle.typed_prog.specs.declared.operators.Step.TheVariants as step
 use Rattle.typed_prog.specs.Tree as t
 use Rattle.qed_terms.specs.Operators.{is_zero, is_equal}
 use Rattle.acsl_truth.specs.States.{Value, number, number_of}
-use Rattle.acsl_truth.specs.Truth.{first, second, value_at, compare_pointers}
+use Rattle.acsl_truth.specs.Truth.{second, value_at}
 use Rattle.c_runs.specs.Program.{Facts, Variable}
 use Rattle.c_runs.specs.States.{Local, plain, home, World, held_by}
-use Rattle.c_runs.specs.Operators.{Undefined, init, overflow, divzero, shift, access, index, pointing, comparing, Val, is, wrong, where_true, truth_number, within, fits, may_divide, may_shift, may_shift_left, arithmetic, computed, is_order, may_compare, may_point, difference}
-use Rattle.c_runs.specs.Objects.{plain_root, has_value, cell_of, address, is_index, indexed, may_read, content, is_pointed, is_sure, read_local, read_at, read_by}
-use Rattle.c_runs.specs.Values.{kind_at, moved_in, applied, Temps}
+use Rattle.c_runs.specs.Operators.{Undefined, init, overflow, divzero, shift, access, index, pointing, comparing, Val, is, wrong, where_true, fits, may_divide, may_shift, may_shift_left, arithmetic, computed, is_order}
+use Rattle.c_runs.specs.Objects.{plain_root, has_value, cell_of, address, is_index, indexed, may_read, content, is_pointed, read_local, read_at, read_by}
+use Rattle.c_runs.specs.Values.{kind_at, applied, Temps}
 use Rattle.rte_checks.specs.Checks.{Check, here, one_if, index_checks, read_checks_by, constant_of, second_constant, may_be_zero, may_be_minus_one, arithmetic_checks, op_checks}
-use Rattle.rte_checks.specs.Tests.{total_read_by, total_applied, total, totals, is_set_by, step_test, read_test_by, arithmetic_test, op_test}
+use Rattle.rte_checks.specs.Tests.{total_read_by, total_applied, totals, is_set_by, step_test, read_test_by, arithmetic_test, op_test}
 use Rattle.rte_checks.specs.Laws.{settle}
 use Rattle.rte_checks.proofs.Settling.{one_settle, last_settle}
 

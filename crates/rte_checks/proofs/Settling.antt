@@ -1,9 +1,9 @@
 -- A value, or what the first check that isn't met says: lists of checks put together.
-use Rattle.std.proofs.Common.{◌≡◌, ℕ, zero, suc, Bool, true, false, not, ◌&&◌, ◌||◌, List, [], ◌∷◌, ◌++◌, refl, sym, ap, ◌∙◌}
+use Rattle.std.proofs.Common.{◌≡◌, ℕ, Bool, true, false, List, [], ◌∷◌, ◌++◌, refl}
 use Rattle.std.specs.Prelude.{if◌then◌else◌, map}
 use Rattle.acsl_truth.specs.States.{Value}
 use Rattle.c_runs.specs.Operators.{Undefined, Val, is, wrong, where_true}
-use Rattle.c_runs.specs.Values.{Vals, are, wrongs, push_val, with_vals}
+use Rattle.c_runs.specs.Values.{are, wrongs, push_val, with_vals}
 use Rattle.rte_checks.specs.Checks.{Check, here, one_if}
 use Rattle.rte_checks.specs.Laws.{settle}
 

@@ -1,5 +1,5 @@
 -- No check of an operator is idle: there are operands for which it is the first that isn't met.
-use Rattle.std.specs.Prelude.{◌≡◌, ℕ, zero, suc, ◌==◌, nat_lt, Bool, true, false, not, ◌&&◌, ◌||◌, ℤ, pos, negsuc, List, [], ◌∷◌, ◌++◌}
+use Rattle.std.specs.Prelude.{◌≡◌, ℕ, zero, suc, ◌==◌, nat_lt, Bool, true, false, not, ◌&&◌, ◌||◌, ℤ, List, [], ◌∷◌, ◌++◌}
 use Rattle.std.specs.List.{list_all}
 use Rattle.typed_prog.specs.declared.types.CoreType.{CoreType}
 use Rattle.typed_prog.specs.declared.operators.Arithmetic.{Arithmetic}

@@ -1,0 +1,3 @@
+mod Writing
+mod Running
+mod Ordered

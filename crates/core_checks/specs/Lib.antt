@@ -1,0 +1,5 @@
+pub mod Tree
+pub mod Adding
+pub mod Run
+pub mod Laws
+pub mod Examples

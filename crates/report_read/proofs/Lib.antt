@@ -1,0 +1,5 @@
+pub mod Fronts
+pub mod Many
+pub mod Spelled
+pub mod Summary
+pub mod Whole

@@ -1,0 +1,4 @@
+pub mod Bytes
+pub mod Report
+pub mod Read
+pub mod View

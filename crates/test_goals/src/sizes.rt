@@ -54,7 +54,7 @@ fn is_head_kept(alloc: Global) -> Result<bool, NoMemory> {
     let less = Formula::relation(alloc, FormOp::Less, Term::number(1), Term::number(2))?;
     let mut store = TreeStore::new(alloc);
     let id = intern_formula(alloc, &mut store, &less)?;
-    Ok(*store.head(id) == Head::Form(FormOp::Less))
+    Ok(matches!(store.head(id), Head::Form(FormOp::Less)))
 }
 
 pub fn tell_stores(alloc: Global, page: &mut Page) -> Result<(), NoMemory> {

@@ -6,8 +6,8 @@ use Rattle.wp_cli.proofs.verdicts.verdict_of.Goals as goal
 
 pub returns : goal.returns
 returns c =
-    normal_other (goal_tree c.args.goal.now) (formula_tree c.in_ok-formula.formula) (formula_tree c.in_ok-normal.normal) c.in_ok-formula.ensures c.in_ok-normal.ensures.normal (λ e. false≢true (c.if-is_true.ensures.1 e))
+    normal_other (goal_tree c.args.goal.now) (formula_tree c.in_ok-formula.formula) (formula_tree c.in_ok-normal.normal) c.in_ok-formula.ensures c.in_ok-normal.ensures (λ e. false≢true (c.if-is_true.ensures.1 e))
 
 pub returns-then-is_true : goal.returns-then-is_true
 returns-then-is_true c =
-    normal_true (goal_tree c.args.goal.now) (formula_tree c.in_ok-formula.formula) (formula_tree c.in_ok-normal.normal) c.in_ok-formula.ensures c.in_ok-normal.ensures.normal (c.if-is_true.ensures.0 refl)
+    normal_true (goal_tree c.args.goal.now) (formula_tree c.in_ok-formula.formula) (formula_tree c.in_ok-normal.normal) c.in_ok-formula.ensures c.in_ok-normal.ensures (c.if-is_true.ensures.0 refl)

@@ -1,0 +1,9 @@
+pub mod Tables
+pub mod Memories
+pub mod Worlds
+pub mod Calls
+pub mod Expressions
+pub mod Statements
+pub mod CoreStatements
+pub mod Runs
+pub mod Promises

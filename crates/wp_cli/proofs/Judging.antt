@@ -4,18 +4,18 @@ use Rattle.std.specs.Prelude.{slice_get}
 use Rattle.std.proofs.lemmas.List.{take_more, map_push, map-append}
 use Rattle.qed_terms.specs.Tree.{Tree, true_tree}
 use Rattle.qed_rules.specs.Rules.{step}
-use Rattle.qed_simplify.specs.Normal.{Normal, plain}
+use Rattle.qed_simplify.specs.Normal.{Normal, plain as of_width}
 use Rattle.qed_simplify.proofs.Derived.{one_normal}
 use Rattle.wp_calculus.specs.View.{PlainGoal, plain}
 use Rattle.wp_calculus.specs.Goals.{Goal}
 use Rattle.wp_cli.specs.Report.{Judged}
 use Rattle.wp_cli.specs.Answers.{IsJudged, EachIsSo, AreJudged}
 
-pub normal_true : (goal formula normal : Tree) → formula ≡ goal → Normal (step (plain 64)) formula normal → normal ≡ true_tree → Normal (step (plain 64)) goal true_tree
-normal_true goal formula normal same n is = subst (λ t. Normal (step (plain 64)) t true_tree) same (subst (Normal (step (plain 64)) formula) is n)
+pub normal_true : (goal formula normal : Tree) → formula ≡ goal → Normal (step (of_width 64)) formula normal → normal ≡ true_tree → Normal (step (of_width 64)) goal true_tree
+normal_true goal formula normal same n is = subst (λ t. Normal (step (of_width 64)) t true_tree) same (subst (Normal (step (of_width 64)) formula) is n)
 
-pub normal_other : (goal formula normal : Tree) → formula ≡ goal → Normal (step (plain 64)) formula normal → (normal ≡ true_tree → ⊥) → Normal (step (plain 64)) goal true_tree → ⊥
-normal_other goal formula normal same n not proved = not (one_normal (step (plain 64)) n (subst (λ t. Normal (step (plain 64)) t true_tree) (sym same) proved))
+pub normal_other : (goal formula normal : Tree) → formula ≡ goal → Normal (step (of_width 64)) formula normal → (normal ≡ true_tree → ⊥) → Normal (step (of_width 64)) goal true_tree → ⊥
+normal_other goal formula normal same n not proved = not (one_normal (step (of_width 64)) n (subst (λ t. Normal (step (of_width 64)) t true_tree) (sym same) proved))
 
 -- ---- items at the same place
 

@@ -1,3 +1,3 @@
-mod Writing
-mod Running
+pub mod Writing
+pub mod Running
 mod Ordered

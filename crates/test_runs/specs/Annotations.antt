@@ -1,5 +1,5 @@
 -- Small programs with annotations, each with what its runs come to by ACSL, worked out by hand.
-use Rattle.std.specs.Prelude.{◌≡◌, ℕ, Bool, true, false, ℤ, pos, negsuc, List, [], ◌∷◌, Option, Some, None}
+use Rattle.std.specs.Prelude.{◌≡◌, ℕ, true, false, ℤ, pos, negsuc, [], ◌∷◌, Some, None}
 use Rattle.wp_base.specs.declared.kinds.Kind.TheVariants as kind
 use Rattle.typed_prog.specs.declared.operators.Arithmetic.TheVariants as ar
 use Rattle.typed_prog.specs.declared.operators.Comparison.{Comparison}
@@ -10,9 +10,9 @@ use Rattle.typed_prog.specs.declared.operators.Variable.TheVariants as variable
 use Rattle.acsl_trees.specs.declared.heads.Content.TheVariants as content
 use Rattle.acsl_trees.specs.declared.heads.Head.TheVariants as h
 use Rattle.acsl_trees.specs.Tree.{Tree, leaf, one, two}
-use Rattle.c_runs.specs.Program.{Claim, Behavior, Contract, Loop, Stmt, Stmts, evaluate, block, initial, choose, loop, return_of, assert as assert_, Variable, Function, Program}
+use Rattle.c_runs.specs.Program.{Claim, Behavior, Contract, Loop, Stmts, evaluate, block, initial, choose, loop, return_of, assert as assert_, Function, Program}
 use Rattle.c_runs.specs.Claims.{requires, decreases, complete, disjoint, assert, invariant, variant_positive, variant_less, assigns, ensures}
-use Rattle.test_runs.specs.Forms.{num, local, global, var, calc, test, assign, update, call, stmts, with_value, no_clauses, no_contract, function_of, file_of, outcome, returned, ran_out, broke}
+use Rattle.test_runs.specs.Forms.{num, local, global, var, calc, test, assign, update, call, stmts, with_value, no_clauses, no_contract, function_of, file_of, outcome, returned, broke}
 
 -- ---- terms
 

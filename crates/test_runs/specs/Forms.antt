@@ -1,5 +1,5 @@
 -- Short words to write programs with, and what is looked at of an outcome.
-use Rattle.std.specs.Prelude.{ℕ, Bool, true, false, ℤ, pos, List, [], ◌∷◌, map, length, Option, Some, None, slice_get}
+use Rattle.std.specs.Prelude.{ℕ, Bool, true, false, ℤ, pos, List, [], ◌∷◌, map, None, slice_get}
 use Rattle.wp_base.specs.declared.kinds.Kind.TheVariants as kind
 use Rattle.wp_base.specs.declared.kinds.CellKind.TheVariants as cell
 use Rattle.wp_base.specs.declared.kinds.Layout.{Layout}
@@ -16,9 +16,9 @@ use Rattle.typed_prog.specs.declared.operators.Step.TheVariants as step
 use Rattle.typed_prog.specs.declared.operators.UpdateForm.{UpdateForm}
 use Rattle.typed_prog.specs.declared.operators.Variable.TheVariants as variable
 use Rattle.typed_prog.specs.Types.{of_kind, pointer_to}
-use Rattle.typed_prog.specs.Tree.{Value, typed, constant, apply, logic, choose, effect as effect_, Values, stop, more, values_of}
-use Rattle.acsl_truth.specs.States.{Value as Held, number, null}
-use Rattle.c_runs.specs.Program.{Contract, Behavior, Stmt, Stmts, stop as end, more as next, Variable, Function, Facts, Program}
+use Rattle.typed_prog.specs.Tree.{Value, typed, constant, apply, effect as effect_, stop, values_of}
+use Rattle.acsl_truth.specs.States.{Value as Held, number}
+use Rattle.c_runs.specs.Program.{Contract, Behavior, Stmt, Stmts, stop as end, more as next, Variable, Function, Program}
 use Rattle.c_runs.specs.States.{Memory, World}
 use Rattle.c_runs.specs.Operators.{Undefined}
 use Rattle.c_runs.specs.Claims.{Broken, Stop, spent, undefined, failed}

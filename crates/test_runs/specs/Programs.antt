@@ -1,14 +1,14 @@
 -- Small programs, each with what its runs come to by C11, worked out by hand.
-use Rattle.std.specs.Prelude.{◌≡◌, ℕ, Bool, true, false, ℤ, pos, negsuc, List, [], ◌∷◌, Option, Some, None}
+use Rattle.std.specs.Prelude.{◌≡◌, ℕ, false, ℤ, pos, negsuc, [], ◌∷◌, Some, None}
 use Rattle.typed_prog.specs.declared.operators.Arithmetic.{Arithmetic}
 use Rattle.typed_prog.specs.declared.operators.Arithmetic.TheVariants as ar
 use Rattle.typed_prog.specs.declared.operators.Comparison.TheVariants as cmp
 use Rattle.typed_prog.specs.declared.operators.Connective.TheVariants as connective
 use Rattle.typed_prog.specs.declared.operators.UpdateForm.TheVariants as form
-use Rattle.typed_prog.specs.Tree.{Value, typed, logic}
-use Rattle.c_runs.specs.Program.{Loop, Stmt, evaluate, block, initial, choose, loop, switch, case_of, default, break, continue, return_of, Stmts, Function, Program}
+use Rattle.typed_prog.specs.Tree.{typed, logic}
+use Rattle.c_runs.specs.Program.{Loop, evaluate, block, initial, choose, loop, switch, case_of, default, break, continue, return_of, Stmts, Program}
 use Rattle.c_runs.specs.Operators.{init, overflow, divzero, shift, access, index, pointing, noreturn}
-use Rattle.test_runs.specs.Forms.{int, num, local, element, read, var, pointed, calc, test, assign, update, call, decayed, moved, stmts, with_value, without_value, array, a_pointer, function_of, file_of, outcome, returned, ran_out, went_wrong, broke}
+use Rattle.test_runs.specs.Forms.{int, num, local, element, read, var, pointed, calc, test, assign, update, call, decayed, moved, stmts, with_value, without_value, array, a_pointer, function_of, file_of, outcome, returned, ran_out, went_wrong}
 
 abbrev pub no_claims : (declared : ℕ) → Loop
 no_claims n = record { invariants = []; assigns = None; variant = None; declared = n }

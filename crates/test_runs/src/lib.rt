@@ -3,4 +3,6 @@
 
 mod laws;
 
-pub use laws::{runs_as_annotated, runs_as_c};
+pub use laws::{
+    runs_as_annotated, runs_as_c, runs_by_clauses, runs_in_order, runs_on_kinds, runs_on_pointers,
+};

@@ -1,0 +1,9 @@
+pub mod Pairing
+pub mod Parts
+pub mod Counting
+pub mod Ordered
+pub mod Joined
+pub mod Passing
+pub mod Entries
+pub mod Turns
+pub mod Members

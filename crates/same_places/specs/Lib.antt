@@ -1,0 +1,5 @@
+pub mod Pairing
+pub mod Same
+pub mod Passing
+pub mod View
+pub mod Members

@@ -1,0 +1,6 @@
+pub mod Clauses
+pub mod Bodies
+pub mod Clusters
+pub mod Files
+pub mod Placing
+pub mod Laws

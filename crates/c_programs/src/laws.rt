@@ -1,0 +1,9 @@
+// What is so of programs that are made of typed files.
+ghost use Rattle.c_programs.specs.Laws.{NotesArePlaced};
+
+/// A statement whose annotations are typed takes those that were typed where it stands, each loop its own clauses and each assertion its own
+/// predicate, and leaves those behind.
+#[tactic(auto, using(crate::proofs::Notes::notes_are_placed))]
+pub fn notes_are_placed()
+    ensures { NotesArePlaced }
+{}

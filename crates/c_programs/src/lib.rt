@@ -1,0 +1,6 @@
+//! Floor 5, goals: programs as they run, out of typed files and their typed annotations.
+#![tactic(auto)]
+
+mod laws;
+
+pub use laws::notes_are_placed;

@@ -1,5 +1,6 @@
 -- Contracts and annotations of loops as runs read them, out of typed clauses in the order of the text (ACSL 2.3, 2.4.2).
-use Rattle.std.specs.Prelude.{ℕ, Bool, true, false, List, [], ◌∷◌, Some, None}
+use Rattle.std.specs.Prelude.{ℕ, ◌==◌, if◌then◌else◌, Bool, true, false, List, [], ◌∷◌, Option, Some, None}
+use Rattle.std.specs.Option.{option_map}
 use Rattle.acsl_trees.specs.Tree.{Tree}
 use Rattle.acsl_clauses.specs.declared.items.Role.{Role}
 use Rattle.acsl_clauses.specs.declared.items.Role.TheVariants as role
@@ -8,26 +9,45 @@ use Rattle.acsl_clauses.specs.declared.items.Group.TheVariants as group
 use Rattle.acsl_clauses.specs.Typed.{Said, TypedClause, claims, decreases, assigns, begins, together}
 use Rattle.c_runs.specs.Program.{Claim, Measure, Behavior, Together, Contract, Loop}
 
+-- ---- single clauses
+
+abbrev pub role_place : Role → ℕ
+role_place role.Requires = 0
+role_place role.Assumes = 1
+role_place role.Ensures = 2
+role_place role.Invariant = 3
+
 abbrev pub claim_of : (line : ℕ) → Tree → Claim
 claim_of l t = record { what = t; line = l }
 
 abbrev pub measure_of : (line : ℕ) → Tree → Measure
 measure_of l t = record { what = t; line = l }
 
--- ---- contracts
+-- the predicate of a clause in this role
+abbrev pub tree_by : Role → Said → Option Tree
+tree_by r (claims q t) = if role_place r == role_place q then Some t else None
+tree_by r (decreases t) = None
+tree_by r (assigns ts) = None
+tree_by r (begins n) = None
+tree_by r (together g ns) = None
 
-abbrev pub no_behavior : Behavior
-no_behavior = record { assumes = []; requires = []; ensures = []; assigns = None }
+abbrev pub claim_by : Role → TypedClause → Option Claim
+claim_by r x = option_map (claim_of x.line) (tree_by r x.said)
 
-abbrev pub no_contract : Contract
-no_contract = record { plain = no_behavior; decreases = None; behaviors = []; together = [] }
+-- the number that has to decrease
+abbrev pub measure_by : (line : ℕ) → Said → Option Measure
+measure_by l (decreases t) = Some (measure_of l t)
+measure_by l (claims r t) = None
+measure_by l (assigns ts) = None
+measure_by l (begins n) = None
+measure_by l (together g ns) = None
 
--- a predicate before those of a behavior; that of a loop isn't one
-abbrev pub with_claim : (line : ℕ) → Role → Tree → Behavior → Behavior
-with_claim l role.Requires t b = record b { requires = claim_of l t ∷ b.requires }
-with_claim l role.Assumes t b = record b { assumes = t ∷ b.assumes }
-with_claim l role.Ensures t b = record b { ensures = claim_of l t ∷ b.ensures }
-with_claim l role.Invariant t b = b
+abbrev pub regions_by : Said → Option (List Tree)
+regions_by (assigns ts) = Some ts
+regions_by (claims r t) = None
+regions_by (decreases t) = None
+regions_by (begins n) = None
+regions_by (together g ns) = None
 
 abbrev pub is_complete : Group → Bool
 is_complete group.Complete = true
@@ -36,38 +56,72 @@ is_complete group.Disjoint = false
 abbrev pub together_of : (line : ℕ) → Group → (numbers : List ℕ) → Together
 together_of l g ns = record { is_complete = is_complete g; numbers = ns; line = l }
 
--- A clause before the others. What stands before the first behavior of these is what is plain in them; where a behavior begins, that is its own.
-abbrev pub with_said : (line : ℕ) → Said → Contract → Contract
-with_said l (claims r t) c = record c { plain = with_claim l r t c.plain }
-with_said l (decreases t) c = record c { decreases = Some (measure_of l t) }
-with_said l (assigns ts) c = record c { plain = record c.plain { assigns = Some ts } }
-with_said l (begins n) c = record c { plain = no_behavior; behaviors = c.plain ∷ c.behaviors }
-with_said l (together g ns) c = record c { together = together_of l g ns ∷ c.together }
+abbrev pub together_by : (line : ℕ) → Said → Option Together
+together_by l (together g ns) = Some (together_of l g ns)
+together_by l (claims r t) = None
+together_by l (decreases t) = None
+together_by l (assigns ts) = None
+together_by l (begins n) = None
 
+-- ---- several clauses
+
+abbrev pub more_if : {X : Type 0} → Option X → List X → List X
+more_if None xs = xs
+more_if (Some x) xs = x ∷ xs
+
+abbrev pub or_else : {X : Type 0} → Option X → Option X → Option X
+or_else (Some x) o = Some x
+or_else None o = o
+
+abbrev pub trees_in : Role → List TypedClause → List Tree
+trees_in r [] = []
+trees_in r (x ∷ xs) = more_if (tree_by r x.said) (trees_in r xs)
+
+abbrev pub claims_in : Role → List TypedClause → List Claim
+claims_in r [] = []
+claims_in r (x ∷ xs) = more_if (claim_by r x) (claims_in r xs)
+
+abbrev pub together_in : List TypedClause → List Together
+together_in [] = []
+together_in (x ∷ xs) = more_if (together_by x.line x.said) (together_in xs)
+
+-- a contract, a behavior or a loop has one such clause at most
+abbrev pub regions_in : List TypedClause → Option (List Tree)
+regions_in [] = None
+regions_in (x ∷ xs) = or_else (regions_by x.said) (regions_in xs)
+
+abbrev pub measure_in : List TypedClause → Option Measure
+measure_in [] = None
+measure_in (x ∷ xs) = or_else (measure_by x.line x.said) (measure_in xs)
+
+-- ---- contracts
+
+abbrev pub begins_one : Said → Bool
+begins_one (begins n) = true
+begins_one (claims r t) = false
+begins_one (decreases t) = false
+begins_one (assigns ts) = false
+begins_one (together g ns) = false
+
+-- the clauses up to the next behavior
+abbrev pub own : List TypedClause → List TypedClause
+own [] = []
+own (x ∷ xs) = if begins_one x.said then [] else x ∷ own xs
+
+abbrev pub behavior_of : List TypedClause → Behavior
+behavior_of xs = record { assumes = trees_in role.Assumes xs; requires = claims_in role.Requires xs; ensures = claims_in role.Ensures xs; assigns = regions_in xs }
+
+-- Each behavior has the clauses behind its beginning. Their numbers are their places, from 0.
+abbrev pub behaviors_of : List TypedClause → List Behavior
+behaviors_of [] = []
+behaviors_of (x ∷ xs) = if begins_one x.said then behavior_of (own xs) ∷ behaviors_of xs else behaviors_of xs
+
+-- what stands before the first behavior is the contract's own
 abbrev pub contract_of : List TypedClause → Contract
-contract_of [] = no_contract
-contract_of (x ∷ xs) = with_said x.line x.said (contract_of xs)
+contract_of xs = record { plain = behavior_of (own xs); decreases = measure_in xs; behaviors = behaviors_of xs; together = together_in xs }
 
 -- ---- loops
 
--- nothing is claimed of a loop before which so many variables are declared
-abbrev pub no_claims : (declared : ℕ) → Loop
-no_claims n = record { invariants = []; assigns = None; variant = None; declared = n }
-
-abbrev pub with_invariant : (line : ℕ) → Role → Tree → Loop → Loop
-with_invariant l role.Invariant t m = record m { invariants = claim_of l t ∷ m.invariants }
-with_invariant l role.Requires t m = m
-with_invariant l role.Assumes t m = m
-with_invariant l role.Ensures t m = m
-
--- behaviors are those of contracts alone
-abbrev pub with_loop_said : (line : ℕ) → Said → Loop → Loop
-with_loop_said l (claims r t) m = with_invariant l r t m
-with_loop_said l (decreases t) m = record m { variant = Some (measure_of l t) }
-with_loop_said l (assigns ts) m = record m { assigns = Some ts }
-with_loop_said l (begins n) m = m
-with_loop_said l (together g ns) m = m
-
+-- a loop before which so many variables are declared
 abbrev pub loop_with : (declared : ℕ) → List TypedClause → Loop
-loop_with n [] = no_claims n
-loop_with n (x ∷ xs) = with_loop_said x.line x.said (loop_with n xs)
+loop_with n xs = record { invariants = claims_in role.Invariant xs; assigns = regions_in xs; variant = measure_in xs; declared = n }

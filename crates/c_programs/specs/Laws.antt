@@ -1,13 +1,48 @@
 -- What is so of programs that are made of typed files.
-use Rattle.std.specs.Prelude.{◌≡◌, ℕ, List, [], ◌∷◌, ◌++◌, map, Option, Ok, IsSome, slice_get}
+use Rattle.std.specs.Prelude.{◌≡◌, ℕ, List, [], ◌∷◌, ◌++◌, map, Some, None, Option, Ok, IsSome, slice_get}
 use Rattle.typed_unit.specs.Stmt as s
 use Rattle.c_scopes.specs.declared.symbols.Object.{Object}
 use Rattle.acsl_expand.specs.Expansion.{Definition}
 use Rattle.acsl_notes.specs.Notes.{Enclosing, Note, Noted, noted}
 use Rattle.acsl_annotated.specs.Annotated.{note_expanded}
-use Rattle.c_runs.specs.Program.{Stmts}
+use Rattle.c_runs.specs.Program.{Stmts, Behavior, Contract}
+use Rattle.acsl_trees.specs.Tree.{Tree}
+use Rattle.acsl_clauses.specs.declared.items.Role.{Role}
+use Rattle.acsl_clauses.specs.declared.items.Role.TheVariants as role
+use Rattle.acsl_clauses.specs.Typed.{Said, TypedClause, claims, decreases, assigns, begins, together}
+use Rattle.c_programs.specs.Clauses.{claim_of, measure_of, together_of, contract_of}
 use Rattle.c_programs.specs.Bodies.{Placed, placed}
 use Rattle.c_programs.specs.Placing.{Becomes}
+
+-- ---- contracts, clause by clause from the end
+
+abbrev pub no_behavior : Behavior
+no_behavior = record { assumes = []; requires = []; ensures = []; assigns = None }
+
+abbrev pub no_contract : Contract
+no_contract = record { plain = no_behavior; decreases = None; behaviors = []; together = [] }
+
+abbrev pub with_claim : (line : ℕ) → Role → Tree → Behavior → Behavior
+with_claim l role.Requires t b = record b { requires = claim_of l t ∷ b.requires }
+with_claim l role.Assumes t b = record b { assumes = t ∷ b.assumes }
+with_claim l role.Ensures t b = record b { ensures = claim_of l t ∷ b.ensures }
+with_claim l role.Invariant t b = b
+
+-- A clause before these: it is plain, but where a behavior begins, what was plain is its own.
+abbrev pub with_said : (line : ℕ) → Said → Contract → Contract
+with_said l (claims r t) c = record c { plain = with_claim l r t c.plain }
+with_said l (decreases t) c = record c { decreases = Some (measure_of l t) }
+with_said l (assigns ts) c = record c { plain = record c.plain { assigns = Some ts } }
+with_said l (begins n) c = record c { plain = no_behavior; behaviors = c.plain ∷ c.behaviors }
+with_said l (together g ns) c = record c { together = together_of l g ns ∷ c.together }
+
+abbrev pub read_back : List TypedClause → Contract
+read_back [] = no_contract
+read_back (x ∷ xs) = with_said x.line x.said (read_back xs)
+
+-- So no clause is lost, and each stands in its part and in its order.
+abbrev pub ContractsAreRead : Type 0
+ContractsAreRead = (xs : List TypedClause) → contract_of xs ≡ read_back xs
 
 -- ---- each annotation stands in its place
 

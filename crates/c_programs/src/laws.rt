@@ -1,9 +1,15 @@
 // What is so of programs that are made of typed files.
-ghost use Rattle.c_programs.specs.Laws.{NotesArePlaced};
+ghost use Rattle.c_programs.specs.Laws.{ContractsAreRead, NotesArePlaced};
 
 /// A statement whose annotations are typed takes those that were typed where it stands, each loop its own clauses and each assertion its own
 /// predicate, and leaves those behind.
 #[tactic(auto, using(crate::proofs::Notes::notes_are_placed))]
 pub fn notes_are_placed()
     ensures { NotesArePlaced }
+{}
+
+/// A contract is what its clauses make one by one from the end: none is lost, each stands in its part and in its order.
+#[tactic(auto, using(crate::proofs::Reading::contracts_are_read))]
+pub fn contracts_are_read()
+    ensures { ContractsAreRead }
 {}

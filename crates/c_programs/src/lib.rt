@@ -3,4 +3,4 @@
 
 mod laws;
 
-pub use laws::notes_are_placed;
+pub use laws::{contracts_are_read, notes_are_placed};

@@ -1,6 +1,7 @@
 -- Contracts and annotations of loops as runs read them, out of typed clauses in the order of the text (ACSL 2.3, 2.4.2).
 use Rattle.std.specs.Prelude.{ℕ, ◌==◌, if◌then◌else◌, Bool, true, false, List, [], ◌∷◌, Option, Some, None}
 use Rattle.std.specs.Option.{option_map}
+use Rattle.std.specs.List.{filter_map}
 use Rattle.acsl_trees.specs.Tree.{Tree}
 use Rattle.acsl_clauses.specs.declared.items.Role.{Role}
 use Rattle.acsl_clauses.specs.declared.items.Role.TheVariants as role
@@ -31,8 +32,11 @@ tree_by r (assigns ts) = None
 tree_by r (begins n) = None
 tree_by r (together g ns) = None
 
-abbrev pub claim_by : Role → TypedClause → Option Claim
-claim_by r x = option_map (claim_of x.line) (tree_by r x.said)
+abbrev pub tree_in : Role → TypedClause → Option Tree
+tree_in r x = tree_by r x.said
+
+abbrev pub claim_in : Role → TypedClause → Option Claim
+claim_in r x = option_map (claim_of x.line) (tree_in r x)
 
 -- the number that has to decrease
 abbrev pub measure_by : (line : ℕ) → Said → Option Measure
@@ -56,43 +60,47 @@ is_complete group.Disjoint = false
 abbrev pub together_of : (line : ℕ) → Group → (numbers : List ℕ) → Together
 together_of l g ns = record { is_complete = is_complete g; numbers = ns; line = l }
 
-abbrev pub together_by : (line : ℕ) → Said → Option Together
-together_by l (together g ns) = Some (together_of l g ns)
-together_by l (claims r t) = None
-together_by l (decreases t) = None
-together_by l (assigns ts) = None
-together_by l (begins n) = None
+abbrev pub together_said : (line : ℕ) → Said → Option Together
+together_said l (together g ns) = Some (together_of l g ns)
+together_said l (claims r t) = None
+together_said l (decreases t) = None
+together_said l (assigns ts) = None
+together_said l (begins n) = None
+
+abbrev pub together_by : TypedClause → Option Together
+together_by x = together_said x.line x.said
 
 -- ---- several clauses
-
-abbrev pub more_if : {X : Type 0} → Option X → List X → List X
-more_if None xs = xs
-more_if (Some x) xs = x ∷ xs
 
 abbrev pub or_else : {X : Type 0} → Option X → Option X → Option X
 or_else (Some x) o = Some x
 or_else None o = o
 
 abbrev pub trees_in : Role → List TypedClause → List Tree
-trees_in r [] = []
-trees_in r (x ∷ xs) = more_if (tree_by r x.said) (trees_in r xs)
+trees_in r xs = filter_map (tree_in r) xs
 
 abbrev pub claims_in : Role → List TypedClause → List Claim
-claims_in r [] = []
-claims_in r (x ∷ xs) = more_if (claim_by r x) (claims_in r xs)
+claims_in r xs = filter_map (claim_in r) xs
 
 abbrev pub together_in : List TypedClause → List Together
-together_in [] = []
-together_in (x ∷ xs) = more_if (together_by x.line x.said) (together_in xs)
+together_in xs = filter_map together_by xs
+
+abbrev pub first : {X Y : Type 0} → (X → Option Y) → List X → Option Y
+first f [] = None
+first f (x ∷ xs) = or_else (f x) (first f xs)
+
+abbrev pub regions_at : TypedClause → Option (List Tree)
+regions_at x = regions_by x.said
+
+abbrev pub measure_at : TypedClause → Option Measure
+measure_at x = measure_by x.line x.said
 
 -- a contract, a behavior or a loop has one such clause at most
 abbrev pub regions_in : List TypedClause → Option (List Tree)
-regions_in [] = None
-regions_in (x ∷ xs) = or_else (regions_by x.said) (regions_in xs)
+regions_in xs = first regions_at xs
 
 abbrev pub measure_in : List TypedClause → Option Measure
-measure_in [] = None
-measure_in (x ∷ xs) = or_else (measure_by x.line x.said) (measure_in xs)
+measure_in xs = first measure_at xs
 
 -- ---- contracts
 

@@ -44,11 +44,15 @@ clauses_in f (u.of_function i params q has_body) (of_function cs ns) = if i == f
 clauses_in f (u.of_function i params q has_body) (of_definition t) = []
 clauses_in f (u.of_logic l) x = []
 
--- the clauses that stand at the declarations of a function: one of these has clauses at most
+abbrev pub or_these : List TypedClause → List TypedClause → List TypedClause
+or_these [] ys = ys
+or_these (x ∷ xs) ys = x ∷ xs
+
+-- the clauses at the first declaration of a function that has some; the others have none
 abbrev pub clauses_for : (function : ℕ) → List u.Part → List Annotation → List TypedClause
 clauses_for f [] xs = []
 clauses_for f (p ∷ ps) [] = []
-clauses_for f (p ∷ ps) (x ∷ xs) = clauses_in f p.decl x ++ clauses_for f ps xs
+clauses_for f (p ∷ ps) (x ∷ xs) = or_these (clauses_in f p.decl x) (clauses_for f ps xs)
 
 abbrev pub notes_by : (has_body : Bool) → Annotation → List (List Note)
 notes_by true (of_function cs ns) = ns ∷ []

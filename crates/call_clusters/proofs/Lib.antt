@@ -1,0 +1,5 @@
+pub mod Calling
+pub mod Classes
+pub mod Reaching
+pub mod Tables
+pub mod Through

@@ -1,0 +1,8 @@
+//! Floor 5, goals: which functions of a program call each other.
+#![tactic(auto)]
+
+mod callees;
+mod clusters;
+mod rows;
+
+pub use clusters::clusters_of;

@@ -1,2 +1,3 @@
-pub mod Reading
+pub mod FileNotes
 pub mod Notes
+pub mod Reading

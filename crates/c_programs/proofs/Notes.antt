@@ -21,20 +21,20 @@ use Rattle.c_programs.specs.Laws.{AreObjects, Declares, AllDeclare, IsPlaced, No
 
 -- ---- answers
 
-abbrev Holds : {X : Type 0} → (X → Type 0) → Answer X → Type 0
+abbrev pub Holds : {X : Type 0} → (X → Type 0) → Answer X → Type 0
 Holds P (Ok x) = P x
 Holds P (Err r) = Unit {0}
 
-after_holds : {X Y : Type 0} (P : X → Type 0) (Q : Y → Type 0) (o : Answer X) (f : X → Answer Y) → Holds P o → ((x : X) → P x → Holds Q (f x)) → Holds Q (after o f)
+pub after_holds : {X Y : Type 0} (P : X → Type 0) (Q : Y → Type 0) (o : Answer X) (f : X → Answer Y) → Holds P o → ((x : X) → P x → Holds Q (f x)) → Holds Q (after o f)
 after_holds P Q (Ok x) f is so = so x is
 after_holds P Q (Err r) f is so = tt
 
-holds_more : {X : Type 0} (P Q : X → Type 0) (o : Answer X) → ((x : X) → P x → Q x) → Holds P o → Holds Q o
+pub holds_more : {X : Type 0} (P Q : X → Type 0) (o : Answer X) → ((x : X) → P x → Q x) → Holds P o → Holds Q o
 holds_more P Q (Ok x) so is = so x is
 holds_more P Q (Err r) so is = tt
 
 -- what is answered is what was answered
-this : {X : Type 0} (o : Answer X) → Holds (λ x. o ≡ Ok x) o
+pub this : {X : Type 0} (o : Answer X) → Holds (λ x. o ≡ Ok x) o
 this (Ok x) = refl
 this (Err r) = tt
 

@@ -3,4 +3,5 @@ pub mod Bodies
 pub mod Clusters
 pub mod Files
 pub mod Placing
+pub mod FileLaws
 pub mod Laws

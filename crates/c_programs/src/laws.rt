@@ -1,4 +1,5 @@
 // What is so of programs that are made of typed files.
+ghost use Rattle.c_programs.specs.FileLaws.{BodiesAreNoted, BodiesArePlaced};
 ghost use Rattle.c_programs.specs.Laws.{ContractsAreRead, NotesArePlaced};
 
 /// A statement whose annotations are typed takes those that were typed where it stands, each loop its own clauses and each assertion its own
@@ -12,4 +13,16 @@ pub fn notes_are_placed()
 #[tactic(auto, using(crate::proofs::Reading::contracts_are_read))]
 pub fn contracts_are_read()
     ensures { ContractsAreRead }
+{}
+
+/// The body of a function in a typed file has the annotations that were typed of it.
+#[tactic(auto, using(crate::proofs::FileNotes::bodies_are_noted))]
+pub fn bodies_are_noted()
+    ensures { BodiesAreNoted }
+{}
+
+/// A body takes all annotations that were typed of it, each where it stands.
+#[tactic(auto, using(crate::proofs::FileNotes::bodies_are_placed))]
+pub fn bodies_are_placed()
+    ensures { BodiesArePlaced }
 {}

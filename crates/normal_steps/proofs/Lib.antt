@@ -1,0 +1,5 @@
+pub mod Joins
+pub mod Saving
+pub mod Jumping
+pub mod Ways
+pub mod Conditions

@@ -1,0 +1,2 @@
+pub mod Purely
+pub mod Operands

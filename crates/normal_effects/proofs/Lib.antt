@@ -1,0 +1,4 @@
+pub mod Building
+pub mod Storing
+pub mod Calling
+pub mod Behind

@@ -83,6 +83,54 @@ all_are {X} at spell is Follows less one begins (x ∷ xs) rest all f none =
     follow [] = f
     follow (y ∷ ys) = subst Follows (sym (append_assoc (spell y) (joined (map spell ys)) rest)) (begins y (joined (map spell ys) ++ rest))
 
+-- ---- the same, where each item has a byte at least
+
+many_read : {X : Type 0} (at : Reader X) (spell : X → List ℕ) (is : X → Bool) (Follows : List ℕ → Type 0)
+    → ((x : X) (rest : List ℕ) → is x ≡ true → Follows rest → at (spell x ++ rest) ≡ Some (x, rest)) → ((x : X) (rest : List ℕ) → Follows (spell x ++ rest))
+    → (n : ℕ) (xs : List X) (rest : List ℕ) → length xs ≤ n → list_all is xs ≡ true → Follows rest → at rest ≡ None → many at n (joined (map spell xs) ++ rest) ≡ (xs, rest)
+many_read at spell is Follows one begins n [] rest l all f none = no_more at n rest none
+many_read at spell is Follows one begins zero (x ∷ xs) rest l all f none = absurd (omega (arith, l))
+many_read {X} at spell is Follows one begins (suc n) (x ∷ xs) rest l all f none =
+    let b = both_true (is x) (list_all is xs) all in
+    let behind = joined (map spell xs) ++ rest in
+    let follows : Follows behind = follow xs in
+    let assoc : (spell x ++ joined (map spell xs)) ++ rest ≡ spell x ++ behind = append_assoc (spell x) (joined (map spell xs)) rest in
+    ap (many at (suc n)) assoc ∙ one_more at n (spell x ++ behind) x behind (one x behind b.0 follows)
+    ∙ ap (λ (r : List X × List ℕ). (x ∷ r.0, r.1)) (many_read at spell is Follows one begins n xs rest (omega (arith, l)) b.1 f none)
+  where
+    follow : (ys : List X) → Follows (joined (map spell ys) ++ rest)
+    follow [] = f
+    follow (y ∷ ys) = subst Follows (sym (append_assoc (spell y) (joined (map spell ys)) rest)) (begins y (joined (map spell ys) ++ rest))
+
+as_many_bytes : {X : Type 0} (spell : X → List ℕ) → ((x : X) → 0 < length (spell x)) → (xs : List X) (rest : List ℕ) → length xs ≤ length (joined (map spell xs) ++ rest)
+as_many_bytes spell some [] rest = omega arith
+as_many_bytes spell some (x ∷ xs) rest =
+    let first = some x in
+    let more = as_many_bytes spell some xs rest in
+    let assoc = ap length (append_assoc (spell x) (joined (map spell xs)) rest) in
+    let sum = length-append (spell x) (joined (map spell xs) ++ rest) in
+    omega (arith, first, more, assoc, sum)
+
+pub all_read : {X : Type 0} (at : Reader X) (spell : X → List ℕ) (is : X → Bool) (Follows : List ℕ → Type 0)
+    → ((x : X) (rest : List ℕ) → is x ≡ true → Follows rest → at (spell x ++ rest) ≡ Some (x, rest)) → ((x : X) (rest : List ℕ) → Follows (spell x ++ rest)) → ((x : X) → 0 < length (spell x))
+    → (xs : List X) (rest : List ℕ) → list_all is xs ≡ true → Follows rest → at rest ≡ None → all_of at (joined (map spell xs) ++ rest) ≡ (xs, rest)
+all_read at spell is Follows one begins some xs rest all f none =
+    many_read at spell is Follows one begins (length (joined (map spell xs) ++ rest)) xs rest (as_many_bytes spell some xs rest) all f none
+
+-- ---- bytes that stand for themselves
+
+abbrev alone : ℕ → List ℕ
+alone b = b ∷ []
+
+all_alone : (s : List ℕ) → joined (map alone s) ≡ s
+all_alone [] = refl
+all_alone (b ∷ s) = ap (λ r. b ∷ r) (all_alone s)
+
+pub bytes_read : (at : Reader ℕ) (is : ℕ → Bool) → ((b : ℕ) (rest : List ℕ) → is b ≡ true → at (b ∷ rest) ≡ Some (b, rest))
+    → (s rest : List ℕ) → list_all is s ≡ true → at rest ≡ None → all_of at (s ++ rest) ≡ (s, rest)
+bytes_read at is one s rest all none =
+    ap (λ bytes. all_of at (bytes ++ rest)) (sym (all_alone s)) ∙ all_read at alone is (λ _. Unit {0}) (λ b r i f. one b r i) (λ b r. tt) (λ b. omega arith) s rest all tt none
+
 -- ---- a loop over them: what is done, and what is to come, make the whole
 
 pub found_more : {X : Type 0} (at : Reader X) → Consumes at → (bytes rest : List ℕ) (x : X) (done done' whole : List X) → at bytes ≡ Some (x, rest) → done' ≡ done ++ x ∷ []

@@ -1,0 +1,6 @@
+pub mod Whole
+pub mod Strings
+pub mod Objects
+pub mod JsonGoals
+pub mod Fields
+pub mod Rows

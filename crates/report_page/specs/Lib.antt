@@ -1,0 +1,4 @@
+pub mod Markup
+pub mod Style
+pub mod Page
+pub mod View

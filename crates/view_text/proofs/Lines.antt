@@ -4,7 +4,6 @@ use Rattle.std.proofs.lemmas.List.{drop_all, drop_more}
 use Rattle.std.specs.Prelude.{Bool, option_map, slice_get, Vec}
 use Rattle.std.specs.Borrow.{Bor}
 use Rattle.std.specs.declared.alloc.Global.{Global}
-use Rattle.report_read.specs.Report as report
 use Rattle.report_read.specs.View.{bytes_of, view_goal}
 use Rattle.report_read.specs.declared.report.Goal.{Goal}
 use Rattle.report_read.specs.Bytes.{joined}

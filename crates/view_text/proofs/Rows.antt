@@ -1,5 +1,5 @@
 -- The table.
-use Rattle.std.proofs.Common.{◌≡◌, ℕ, ◌+◌, ◌-◌, List, [], ◌∷◌, ◌++◌, length, map, codes, refl, sym, ap, ◌∙◌, arith, append_assoc}
+use Rattle.std.proofs.Common.{◌≡◌, ℕ, ◌-◌, List, [], ◌∷◌, ◌++◌, length, map, codes, refl, sym, ◌∙◌, arith, append_assoc}
 use Rattle.report_read.specs.Bytes.{joined}
 use Rattle.report_read.specs.Report as report
 use Rattle.report_read.specs.Report.{proved_in, unknown_in}

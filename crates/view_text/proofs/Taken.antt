@@ -1,5 +1,5 @@
 -- The source, taken from its view.
-use Rattle.std.proofs.Common.{◌≡◌, ℕ, zero, suc, ◌+◌, ◌-◌, ◌<◌, ◌≤◌, nat_lt, Bool, true, false, not, cond, ◌&&◌, ◌||◌, List, [], ◌∷◌, ◌++◌, length, map, drop, codes, Option, Some, None, refl, sym, ap, ◌∙◌, subst, arith, append_assoc, append-nil, eqb}
+use Rattle.std.proofs.Common.{◌≡◌, ℕ, zero, suc, ◌+◌, ◌≤◌, nat_lt, Bool, true, false, not, cond, ◌&&◌, ◌||◌, List, [], ◌∷◌, ◌++◌, length, map, codes, Option, Some, None, refl, sym, ap, ◌∙◌, arith, append_assoc, append-nil, eqb}
 use Rattle.std.specs.Prelude.{filter, option_map}
 use Rattle.std.specs.List.{list_all}
 use Rattle.std.specs.Str.{bytes_eq}
@@ -8,15 +8,15 @@ use Rattle.qed_terms.specs.declared.verdict.Verdict.{Verdict}
 use Rattle.qed_terms.specs.declared.verdict.Verdict.TheVariants as verdict
 use Rattle.std.proofs.lemmas.Bool.{false≢true}
 use Rattle.goal_words.proofs.Numerals.{both_true}
-use Rattle.report_read.specs.Bytes.{joined, until, many, all_of, one_and_more, pushed, nothing_before, stops, is_free_of}
-use Rattle.report_read.specs.Report.{Goal, Report, IsReport, is_goal, is_line, is_some_line, is_word, is_number, is_formula, is_proved, verdict_name, proved_in, unknown_in}
+use Rattle.report_read.specs.Bytes.{joined, until, many, all_of, one_and_more, pushed, nothing_before, is_free_of}
+use Rattle.report_read.specs.Report.{Goal, Report, IsReport, is_goal, is_line, is_word, is_number, is_formula, proved_in, unknown_in}
 use Rattle.report_read.proofs.Fronts.{until_is, until_of}
-use Rattle.report_read.proofs.Many.{Consumes, all_more}
-use Rattle.report_shown.specs.Source.{lines, last_line, on_line, by_line, elsewhere, first_list, other_lists}
+use Rattle.report_read.proofs.Many.{all_more}
+use Rattle.report_shown.specs.Source.{lines, last_line, by_line, elsewhere, first_list, other_lists}
 use Rattle.report_shown.specs.Shown.{onto_run, runs}
 use Rattle.report_shown.proofs.Placed.{newline_consumes}
-use Rattle.view_text.specs.Text.{padded, source_line, margin, has_room, word_put, next_column, filled, words, formula_text, some_formula, verdict_text, goal_name, goal_text, goals_text, source_text, missing_line, missing_text, hypothesis_note, ignored_note, row, row_of, heading, run_row, table, notes, text_view}
-use Rattle.view_text.specs.Whole.{is_blank, behind_bar, line_taken, taken_from, source_in, SourceIsWhole}
+use Rattle.view_text.specs.Text.{padded, source_line, margin, has_room, word_put, next_column, filled, words, formula_text, some_formula, verdict_text, goal_name, goal_text, goals_text, source_text, missing_line, missing_text, hypothesis_note, ignored_note, row, row_of, run_row, table, notes, text_view}
+use Rattle.view_text.specs.Whole.{behind_bar, line_taken, taken_from, source_in, SourceIsWhole}
 use Rattle.view_text.proofs.Free.{Free, both_free, front_free, rest_free, free_of_more, free_decimal, free_padded, barless_padded, number_shows}
 
 -- ---- a line, and the text behind it

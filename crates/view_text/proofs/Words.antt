@@ -1,6 +1,6 @@
 -- A formula, word by word: what is put, and what is to come, make the whole.
-use Rattle.std.proofs.Common.{◌≡◌, ℕ, ◌+◌, ◌<◌, List, [], ◌∷◌, ◌++◌, length, Option, Some, None, refl, sym, ap, ◌∙◌, arith, append_assoc, append-nil, length-append}
-use Rattle.report_read.specs.Bytes.{until, all_of}
+use Rattle.std.proofs.Common.{◌≡◌, ℕ, List, [], ◌∷◌, ◌++◌, length, Some, None, sym, ap, ◌∙◌, arith, append_assoc, append-nil, length-append}
+use Rattle.report_read.specs.Bytes.{until}
 use Rattle.report_read.proofs.Fronts.{until_is}
 use Rattle.report_read.proofs.Many.{Consumes, all_more, all_end}
 use Rattle.view_text.specs.Text.{words, word_put, next_column, filled}

@@ -4,7 +4,7 @@ use Rattle.std.specs.Prelude.{ℕ, suc, ◌+◌, ◌-◌, nat_lt, Bool, if◌the
 use Rattle.std.specs.Fmt.{decimal}
 use Rattle.qed_terms.specs.declared.verdict.Verdict.{Verdict}
 use Rattle.report_read.specs.Bytes.{joined, until, all_of}
-use Rattle.report_read.specs.Report.{Goal, Report, Refusal, verdict_name, is_proved, proved_in, unknown_in}
+use Rattle.report_read.specs.Report.{Goal, Report, verdict_name, is_proved, proved_in, unknown_in}
 use Rattle.report_shown.specs.Source.{lines, by_line, elsewhere, first_list, other_lists}
 use Rattle.report_shown.specs.Shown.{runs}
 

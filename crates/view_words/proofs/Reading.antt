@@ -1,9 +1,9 @@
 -- The words read one after the other, and that what is read is the command.
-use Rattle.std.proofs.Common.{◌≡◌, ℕ, Bool, true, false, not, ◌&&◌, cond, List, [], ◌∷◌, ◌++◌, Option, Some, None, refl, sym, ap, ◌∙◌, append-nil}
-use Rattle.std.specs.Prelude.{codes, is_some, option_and_then}
+use Rattle.std.proofs.Common.{◌≡◌, ℕ, Bool, true, false, not, ◌&&◌, cond, List, [], ◌∷◌, ◌++◌, Option, Some, None, refl, sym, ap, append-nil}
+use Rattle.std.specs.Prelude.{is_some, option_and_then}
 use Rattle.view_words.specs.declared.words.Key.{Key}
 use Rattle.view_words.specs.declared.words.Key.TheVariants as key
-use Rattle.view_words.specs.Command.{Command, Asked, nothing, begins_with_dash, ends_options, key_text, key_of, joined, options, operands, with_value, with_option, asked_behind, files_in, command, command_of}
+use Rattle.view_words.specs.Command.{Command, Asked, nothing, begins_with_dash, ends_options, key_of, joined, options, operands, with_value, with_option, asked_behind, files_in, command, command_of}
 use Rattle.view_words.specs.CommandView.{with_operand}
 
 abbrev pub go_on : {X : Type 0} → Option X → (X → Option Command) → Option Command

@@ -1,6 +1,6 @@
 -- The words of the command `wpview`, by the guidelines for utilities (POSIX, base definitions 12.2): an option begins with `-`, the first `--` ends the
 -- options, and each other word is an operand. Here an operand may also stand before an option.
-use Rattle.std.specs.Prelude.{ℕ, ◌==◌, Bool, true, false, not, ◌||◌, if◌then◌else◌, List, [], ◌∷◌, ◌++◌, codes, filter, is_some, Option, Some, None, option_map, option_and_then}
+use Rattle.std.specs.Prelude.{ℕ, ◌==◌, Bool, true, false, not, ◌||◌, if◌then◌else◌, List, [], ◌∷◌, ◌++◌, codes, filter, is_some, Option, Some, None, option_and_then}
 use Rattle.std.specs.Option.{unwrap_or}
 use Rattle.std.specs.Str.{bytes_eq}
 use Rattle.report_read.specs.Bytes.{after}

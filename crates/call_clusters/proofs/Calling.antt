@@ -1,5 +1,5 @@
 -- A function is called where it is among those that are called.
-use Rattle.std.proofs.Common.{◌≡◌, ℕ, ◌==◌, Bool, true, false, ◌||◌, List, [], ◌∷◌, ◌++◌, Option, Some, None, refl, sym, ap, ◌∙◌, append_assoc, append-nil, length, ◌<◌, ◌≤◌, ◌+◌, drop, get_or, map}
+use Rattle.std.proofs.Common.{◌≡◌, ℕ, ◌==◌, Bool, true, false, ◌||◌, List, [], ◌∷◌, ◌++◌, Option, Some, None, refl, sym, ap, ◌∙◌, append_assoc, append-nil, length, ◌<◌, ◌≤◌, ◌+◌, drop, get_or}
 use Rattle.std.proofs.lemmas.List.{at_drop_more, at_drop_all}
 use Rattle.typed_prog.specs.declared.operators.Effect.{Effect}
 use Rattle.typed_prog.specs.declared.operators.Effect.TheVariants as effect

@@ -1,11 +1,11 @@
 -- Functions that reach each other have one first function with which they do so.
-use Rattle.std.proofs.Common.{◌≡◌, ◌≢◌, ℕ, zero, suc, ◌+◌, ◌-◌, ◌<◌, ◌≤◌, ◌==◌, Bool, true, false, ◌&&◌, ◌⊎◌, inl, inr, if◌then◌else◌, List, [], ◌∷◌, length, map, Option, Some, None, refl, sym, ap, ◌∙◌, subst, arith, zero-add}
+use Rattle.std.proofs.Common.{◌≡◌, ◌≢◌, ℕ, zero, suc, ◌+◌, ◌<◌, ◌≤◌, ◌==◌, Bool, true, false, ◌&&◌, ◌⊎◌, inl, inr, if◌then◌else◌, List, [], ◌∷◌, length, Option, Some, None, refl, sym, ap, ◌∙◌, subst, arith, zero-add}
 use Rattle.std.proofs.lemmas.Bool.Decides.{nat_tests}
 use Rattle.c_runs.specs.Program.{Stmts, Function}
-use Rattle.c_programs.specs.Clusters.{at, body_calls, calls_directly, reaches_through, reaches, call_each_other}
+use Rattle.c_programs.specs.Clusters.{at, body_calls, calls_directly, reaches, call_each_other}
 use Rattle.program_trees.specs.Files as files
 use Rattle.program_trees.specs.Files.{same_cluster, in_cluster_of}
-use Rattle.call_clusters.specs.Rows.{entry, IsRow, AreRows, least_from, both_ways, cluster_in, clusters_from}
+use Rattle.call_clusters.specs.Rows.{entry, AreRows, least_from, both_ways, cluster_in, clusters_from}
 use Rattle.call_clusters.proofs.Through.{and_left, and_right, and_both, reaching_composes, nothing_reached}
 
 -- ---- tests

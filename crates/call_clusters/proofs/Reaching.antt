@@ -1,7 +1,6 @@
 -- Calls of functions, and what they reach.
-use Rattle.std.proofs.Common.{◌≡◌, ℕ, zero, suc, ◌+◌, ◌<◌, ◌≤◌, Bool, ◌&&◌, ◌||◌, List, [], ◌∷◌, length, map, get_or, Option, Some, None, refl, sym, ap, ◌∙◌, subst, arith}
+use Rattle.std.proofs.Common.{◌≡◌, ℕ, zero, suc, ◌+◌, ◌<◌, Bool, ◌&&◌, ◌||◌, List, [], ◌∷◌, length, map, get_or, Option, refl, sym, ap, ◌∙◌, subst, arith}
 use Rattle.std.specs.Option.{option_map}
-use Rattle.c_runs.specs.Program.{Stmts, Function}
 use Rattle.program_trees.specs.declared.files.Function.{Function as Code}
 use Rattle.program_trees.specs.View.{view_function}
 use Rattle.c_programs.specs.Clusters.{at, body_calls, calls_directly, reaches_through, reaches, call_each_other}

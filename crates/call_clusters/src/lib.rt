@@ -3,6 +3,8 @@
 
 mod callees;
 mod clusters;
+mod laws;
 mod rows;
 
 pub use clusters::clusters_of;
+pub use laws::reaching_is_by_calls;

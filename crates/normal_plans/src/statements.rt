@@ -105,7 +105,7 @@ fn dropped(
     Ok(last)
 }
 
-// The same operands, spelled as those of an assignment.
+// An update whose value isn't wanted is the assignment that it stands for.
 #[tactic(auto, using(crate::proofs::Alone::updating_done))]
 fn update_alone(
     alloc: Global,

@@ -38,9 +38,9 @@ fn variable_at(variables: &[FunctionVariable], number: u32) -> Option<&FunctionV
     variables.get(number as usize)
 }
 
-// Of a variable that no pointer leads to, whether it has a value from its declaration on; none where a way begins elsewhere.
+/// Of a variable that no pointer leads to, whether it has a value from its declaration on; none where a way begins elsewhere.
 #[tactic(auto, using(crate::proofs::Failing::variable_is))]
-fn plain_value(variables: &[FunctionVariable], root: Root) -> Option<bool>
+pub fn plain_value(variables: &[FunctionVariable], root: Root) -> Option<bool>
     ensures { result ≡ option_map (objects.has_value (view_variables variables.now)) (objects.plain_root (view_variables variables.now) root) }
 {
     match root {
@@ -59,7 +59,8 @@ fn plain_value(variables: &[FunctionVariable], root: Root) -> Option<bool>
     }
 }
 
-fn is_pointed(root: Root) -> bool
+/// Whether a way begins where a pointer leads.
+pub fn is_pointed(root: Root) -> bool
     ensures { result ≡ objects.is_pointed root }
 {
     match root {
@@ -95,8 +96,8 @@ fn is_signed(kind: Kind) -> bool
     )
 }
 
-// Whether integers of the type have a sign.
-fn is_signed_at(ty: &CoreType) -> bool
+/// Whether integers of the type have a sign.
+pub fn is_signed_at(ty: &CoreType) -> bool
     ensures { result ≡ is_signed_of (kind_at ty.now) }
 {
     match ty.kind() {
@@ -127,8 +128,9 @@ fn second_of(operands: &[Value]) -> Option<&Value>
     operands.get(1)
 }
 
+/// The second operand, where it is a number as spelled.
 #[tactic(auto, using(crate::proofs::Failing::second_constant_is))]
-fn second_constant(operands: &[Value]) -> Option<i128>
+pub fn second_constant(operands: &[Value]) -> Option<i128>
     ensures { result ≡ checks.second_constant (values_of (view_values operands.now)) }
 {
     match second_of(operands) {
@@ -137,7 +139,8 @@ fn second_constant(operands: &[Value]) -> Option<i128>
     }
 }
 
-fn may_be_zero(number: Option<i128>) -> bool
+/// Whether a divisor may be 0.
+pub fn may_be_zero(number: Option<i128>) -> bool
     ensures { result ≡ checks.may_be_zero number }
 {
     match number {
@@ -146,7 +149,8 @@ fn may_be_zero(number: Option<i128>) -> bool
     }
 }
 
-fn may_be_minus_one(number: Option<i128>) -> bool
+/// Whether a divisor may be -1 or 0.
+pub fn may_be_minus_one(number: Option<i128>) -> bool
     ensures { result ≡ checks.may_be_minus_one number }
 {
     match number {
@@ -168,7 +172,8 @@ fn arithmetic_may_fail(op: Arithmetic, signed: bool, second: Option<i128>) -> bo
     }
 }
 
-fn is_order(how: Comparison) -> bool
+/// Whether a comparison is one of order.
+pub fn is_order(how: Comparison) -> bool
     ensures { result ≡ is_order_of how }
 {
     !matches!(how, Comparison::Equal | Comparison::NotEqual)

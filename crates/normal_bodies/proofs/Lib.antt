@@ -1,0 +1,13 @@
+pub mod Blocks
+pub mod Equality
+pub mod Rest
+pub mod Finding
+pub mod Dispatching
+pub mod Doing
+pub mod Numbering
+pub mod Conditions
+pub mod Choosing
+pub mod Looping
+pub mod Following
+pub mod Grouping
+pub mod Arms

@@ -1,0 +1,5 @@
+pub mod Written
+pub mod SameTerms
+pub mod Stands
+pub mod Clashes
+pub mod Laws

@@ -1,0 +1,4 @@
+pub mod Nodes
+pub mod Kids
+pub mod Signed
+pub mod Sums

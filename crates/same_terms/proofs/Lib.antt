@@ -4,3 +4,4 @@ pub mod FromTerms
 pub mod Means
 pub mod Refuted
 pub mod Stated
+pub mod Forms

@@ -1,12 +1,28 @@
 -- What the laws of this crate say.
-use Rattle.std.specs.Prelude.{◌≡◌, ◌↔◌, ℕ, ◌<◌, List, Option}
+use Rattle.std.specs.Prelude.{◌≡◌, ◌↔◌, ℕ, ◌<◌, false, pos, List, [], ◌∷◌, Option, None}
 use Rattle.qed_terms.specs.declared.head.Head.{Head}
 use Rattle.qed_terms.specs.Meaning.{World, Values, meaning}
-use Rattle.qed_terms.specs.Tree.{Tree}
+use Rattle.qed_terms.specs.Tree.{Tree, head_of}
+use Rattle.qed_linear.specs.Linear.{Part, Lin, part, of_lin}
 use Rattle.same_places.specs.Same.{Row, Pairs, Same}
 use Rattle.same_terms.specs.SameTerms.{AreTrue, InBranch, SameTerm}
 use Rattle.same_terms.specs.Clashes.{Clash}
+use Rattle.same_terms.specs.Written.{is_sum, number_in, written_part, written}
 use Rattle.same_terms.specs.Stands.{StandsFor, Stand}
+
+-- neither a number, nor a sum, nor a number times another term
+pub record IsPlain (t : Tree) : Type 0 where
+  pub no_number : number_in t ≡ None
+  pub no_sum : is_sum (head_of t) ≡ false
+  pub no_multiple : written_part t ≡ part t (pos 1)
+
+abbrev pub ArePlain : List Part → Type 0
+ArePlain [] = Unit {0}
+ArePlain (p ∷ ps) = IsPlain (p.atom) × ArePlain ps
+
+-- the term of a form over plain atoms is written as this form
+abbrev pub WrittenIsForm : Type 0
+WrittenIsForm = (f : Lin) → ArePlain (f.parts) → written (of_lin f) ≡ f
 
 -- where the literals are true, same terms mean the same
 abbrev pub SameMeans : Type 0

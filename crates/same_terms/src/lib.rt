@@ -3,4 +3,4 @@
 
 mod laws;
 
-pub use laws::{clash_refutes, rows_agree, same_means};
+pub use laws::{clash_refutes, rows_agree, same_means, written_is_form};

@@ -6,7 +6,7 @@ mod heads;
 mod made;
 mod rests;
 
-pub use forms::{Form, number_at, written};
-pub use heads::{is_binder, is_integer, is_sum};
+pub use forms::{Form, node_at, number_at, written};
+pub use heads::{is_binder, is_integer, is_sum, number_in};
 pub use made::form_place;
 pub use rests::rest_form;

@@ -1,0 +1,4 @@
+pub mod Pairs
+pub mod Shapes
+pub mod OfForms
+pub mod Together

@@ -1,0 +1,4 @@
+pub mod Marking
+pub mod Down
+pub mod Rowing
+pub mod Standing

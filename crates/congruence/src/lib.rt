@@ -1,0 +1,6 @@
+//! Floor 6, prover: which terms of a branch are same, by the classes of their places.
+#![tactic(auto)]
+
+mod classes;
+
+pub use classes::{TermClasses, same, term_classes};

@@ -1,6 +1,7 @@
 -- Classes of places, and same terms.
-use Rattle.std.proofs.Common.{◌≡◌, ℕ, ◌<◌, ◌==◌, ◌&&◌, nat_lt, Bool, true, false, List, length, refl, sym, ◌∙◌, ap, subst, arith}
-use Rattle.std.specs.Prelude.{◌↔◌, Option}
+use Rattle.std.proofs.Common.{◌≡◌, ℕ, ◌+◌, ◌<◌, ◌==◌, ◌&&◌, nat_lt, Bool, true, false, List, [], ◌∷◌, length, refl, sym, ◌∙◌, ap, subst, arith}
+use Rattle.std.specs.Prelude.{◌↔◌, Option, fold}
+use Rattle.std.proofs.lemmas.List.{length-append}
 use Rattle.qed_terms.specs.declared.head.Head.{Head}
 use Rattle.qed_terms.specs.Tree.{Tree}
 use Rattle.same_places.specs.Same.{Row, Pairs, AreClasses, at}
@@ -9,12 +10,12 @@ use Rattle.same_terms.specs.Stands.{Label, Stand}
 use Rattle.same_terms.proofs.Terms.{right_in}
 use Rattle.same_terms.proofs.FromRows.{rows_terms}
 use Rattle.same_terms.proofs.FromTerms.{terms_rows}
-use Rattle.tree_places.specs.Tables.{Node, trees_in, tree_at, IsTable, Grows}
+use Rattle.tree_places.specs.Tables.{Node, tree_over, grown, trees_in, tree_at, IsTable, Grows}
 use Rattle.tree_places.proofs.Nodes.{once, older, grows_long}
 use Rattle.branch_rows.specs.Branch.{MarkBranch}
 use Rattle.branch_rows.specs.Marks.{mark_at}
 use Rattle.branch_rows.proofs.Marking.{and_both, number_is, number_self}
-use Rattle.congruence.specs.Closed.{one_class, same_at, IsClosed}
+use Rattle.congruence.specs.Closed.{one_class, same_at, IsClosed, StayClosed}
 
 and_make : (a b : Bool) → a ≡ true → b ≡ true → (a && b) ≡ true
 and_make true b e d = d
@@ -60,6 +61,16 @@ closed_still ls ns ms marks classes long grows is = record {
   where
     tree_still : (k : ℕ) → k < length classes → tree_at ms k ≡ tree_at ns k
     tree_still k l = older ns ms long grows k (let w = is.within in omega arith)
+
+trees_grown : (ns : List Node) (ts : List Tree) → length (fold grown ts ns) ≡ length ts + length ns
+trees_grown [] ts = omega arith
+trees_grown (n ∷ ns) ts =
+    let rest = trees_grown ns (grown ts n) in
+    let long = length-append ts (tree_over ts n ∷ []) in
+    omega (arith, rest, long)
+
+pub stay_closed : StayClosed
+stay_closed ls ns ms marks classes grows is = let long = trees_grown ns [] in closed_still ls ns ms marks classes (long ∙ omega arith) grows is
 
 -- any two places of the table
 module _ (ls : List Tree) (ns : List Node) (marks : List Bool) (classes : List ℕ) (number : Head → Option ℕ) (find : List ℕ → Option ℕ) (t : IsTable ns number find) (is : IsClosed ls ns marks classes) where

@@ -3,7 +3,7 @@ use Rattle.std.specs.Prelude.{◌≡◌, ◌↔◌, ◌==◌, ◌&&◌, ◌<◌,
 use Rattle.qed_terms.specs.Tree.{Tree}
 use Rattle.same_places.specs.Same.{at}
 use Rattle.same_terms.specs.SameTerms.{InBranch, SameTerm}
-use Rattle.tree_places.specs.Tables.{Node, tree_at}
+use Rattle.tree_places.specs.Tables.{Node, tree_at, Grows}
 use Rattle.branch_rows.specs.Marks.{mark_at}
 
 -- the one place is marked, and both are of one class
@@ -21,3 +21,7 @@ pub record IsClosed (ls : List Tree) (ns : List Node) (marks : List Bool) (class
   pub within : length classes ≤ length ns
   pub place : (t : Tree) → InBranch ls t → (k : ℕ) × (k < length classes) × (tree_at ns k ≡ t)
   pub same : (i j : ℕ) → i < length classes → j < length classes → (one_class marks classes i j ≡ true) ↔ SameTerm ls (tree_at ns i) (tree_at ns j)
+
+-- where nodes come behind, classes stay closed
+abbrev pub StayClosed : Type 0
+StayClosed = (ls : List Tree) (ns ms : List Node) (marks : List Bool) (classes : List ℕ) → Grows ns ms → IsClosed ls ns marks classes → IsClosed ls ms marks classes

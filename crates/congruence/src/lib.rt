@@ -2,5 +2,7 @@
 #![tactic(auto)]
 
 mod classes;
+mod laws;
 
 pub use classes::{TermClasses, same, term_classes};
+pub use laws::classes_stay;

@@ -3,7 +3,8 @@ use Rattle.std.proofs.Common.{◌≡◌, ℕ, Bool, true, false, not, ◌&&◌, 
 use Rattle.std.specs.Prelude.{is_some, option_and_then}
 use Rattle.view_words.specs.declared.words.Key.{Key}
 use Rattle.view_words.specs.declared.words.Key.TheVariants as key
-use Rattle.view_words.specs.Command.{Command, Asked, nothing, begins_with_dash, ends_options, key_of, joined, options, operands, with_value, with_option, asked_behind, files_in, command, command_of}
+use Rattle.wp_words.specs.Command.{begins_with_dash, ends_options, options, operands}
+use Rattle.view_words.specs.Command.{Command, Asked, nothing, key_of, joined, with_value, with_option, asked_behind, files_in, command, command_of}
 use Rattle.view_words.specs.CommandView.{with_operand}
 
 abbrev pub go_on : {X : Type 0} → Option X → (X → Option Command) → Option Command

@@ -7,6 +7,7 @@ use Rattle.report_read.specs.Bytes.{after}
 use Rattle.report_shown.specs.declared.wanted.Only.{Only}
 use Rattle.report_shown.specs.declared.wanted.Only.TheVariants as only
 use Rattle.report_shown.specs.Shown.{Wanted}
+use Rattle.wp_words.specs.Command.{ends_options, options, operands}
 use Rattle.view_words.specs.declared.commands.Form.{Form}
 use Rattle.view_words.specs.declared.commands.Form.TheVariants as form
 use Rattle.view_words.specs.declared.words.Key.{Key}
@@ -19,13 +20,6 @@ pub record Command : Type 0 where
   pub wanted : Wanted
   pub form : Form
   pub color : Bool
-
-abbrev pub begins_with_dash : List ℕ → Bool
-begins_with_dash [] = false
-begins_with_dash (b ∷ bytes) = b == 45
-
-abbrev pub ends_options : List ℕ → Bool
-ends_options word = bytes_eq word (codes "--")
 
 -- the options that take a value
 abbrev pub key_text : Key → List ℕ
@@ -47,21 +41,6 @@ joined None [] = []
 joined (Some k) [] = key_text k ∷ []
 joined (Some k) (value ∷ words) = (key_text k ++ 61 ∷ value) ∷ joined None words
 joined None (word ∷ words) = if ends_options word then word ∷ words else if is_some (key_of word) then joined (key_of word) words else word ∷ joined None words
-
--- the words before the first `--`, and those after it
-abbrev pub before_end : List (List ℕ) → List (List ℕ)
-before_end [] = []
-before_end (word ∷ words) = if ends_options word then [] else word ∷ before_end words
-
-abbrev pub after_end : List (List ℕ) → List (List ℕ)
-after_end [] = []
-after_end (word ∷ words) = if ends_options word then words else after_end words
-
-abbrev pub options : List (List ℕ) → List (List ℕ)
-options words = filter begins_with_dash (before_end words)
-
-abbrev pub operands : List (List ℕ) → List (List ℕ)
-operands words = filter (λ word. not (begins_with_dash word)) (before_end words) ++ after_end words
 
 -- ---- options
 

@@ -2,6 +2,7 @@
 ghost use Rattle.std.specs.Prelude.{◌≡◌, Some};
 ghost use Rattle.std.specs.Option.{option_map};
 ghost use Rattle.view_words.specs.Command as spec;
+ghost use Rattle.wp_words.specs.Command as common;
 ghost use Rattle.view_words.specs.CommandView.{view_asked, view_command, view_operands, with_operand as operand};
 
 use crate::commands::{Command, Form};
@@ -34,7 +35,7 @@ enum Operands<'a> {
 }
 
 fn begins_with_dash(bytes: &[u8]) -> bool
-    ensures { result ≡ spec.begins_with_dash bytes.now }
+    ensures { result ≡ common.begins_with_dash bytes.now }
 {
     match bytes {
         [] => false,

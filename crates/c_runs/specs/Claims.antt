@@ -1,6 +1,6 @@
 -- What annotations claim of a run, and how a run stops (ACSL 2.3, 2.4). Terms and predicates are read in the states that their place gives them.
 use Rattle.std.specs.Prelude.{ℕ, nat_le, Bool, true, false, not, ◌&&◌, ◌||◌, if◌then◌else◌, ℤ, pos, int_le, int_lt, List, [], ◌∷◌, map, ◌++◌, Option, Some, None, slice_get, slice_index_or}
-use Rattle.std.specs.List.{list_all, list_any}
+use Rattle.std.specs.List.{filter, list_all, list_any}
 use Rattle.wp_base.specs.declared.kinds.CellKind.{CellKind}
 use Rattle.wp_base.specs.Blocks.{count}
 use Rattle.acsl_trees.specs.Tree.{Tree}
@@ -152,9 +152,19 @@ abbrev pub all_together : Facts → World → List Behavior → List Together �
 all_together p w bs [] = None
 all_together p w bs (t ∷ ts) = or_stop (together_holds p w bs t) (all_together p w bs ts)
 
+abbrev pub says_complete : Together → Bool
+says_complete t = t.is_complete
+
+abbrev pub says_disjoint : Together → Bool
+says_disjoint t = not t.is_complete
+
+-- that one of them is there is tested first, and then that no two of them are, each in the order of the text
+abbrev pub in_order : List Together → List Together
+in_order ts = filter says_complete ts ++ filter says_disjoint ts
+
 -- at the entry of a function
 abbrev pub entered_well : Facts → World → Contract → Option Stop
-entered_well p w c = all_together p w c.behaviors c.together
+entered_well p w c = all_together p w c.behaviors (in_order c.together)
 
 -- ---- measures (ACSL 2.5)
 

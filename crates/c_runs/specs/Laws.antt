@@ -1,5 +1,5 @@
--- What is so of operators.
-use Rattle.std.specs.Prelude.{◌≡◌, ℕ, Bool, true, ℤ, Option, Some, None}
+-- What is so of operators, and of what is said of several behaviors.
+use Rattle.std.specs.Prelude.{◌≡◌, ℕ, Bool, true, false, if◌then◌else◌, ℤ, List, [], ◌∷◌, Option, Some, None}
 use Rattle.wp_base.specs.declared.kinds.Kind.{Kind}
 use Rattle.c_kinds.specs.declared.models.Machdep.{Machdep}
 use Rattle.c_kinds.specs.Models.{holds}
@@ -8,8 +8,10 @@ use Rattle.typed_prog.specs.declared.operators.Arithmetic.{Arithmetic}
 use Rattle.typed_prog.specs.declared.operators.Arithmetic.TheVariants as ar
 use Rattle.typed_prog.specs.declared.operators.Comparison.{Comparison}
 use Rattle.typed_prog.specs.declared.operators.Comparison.TheVariants as cmp
-use Rattle.acsl_truth.specs.States.{number}
+use Rattle.acsl_truth.specs.States.{World, number}
 use Rattle.acsl_truth.specs.Truth.{compare}
+use Rattle.c_runs.specs.Program.{Behavior, Together, Contract, Facts}
+use Rattle.c_runs.specs.Claims.{Stop, or_stop, together_holds, entered_well}
 use Rattle.c_runs.specs.Operators as run
 use Rattle.c_runs.specs.Operators.{Val, is, wrong}
 
@@ -58,3 +60,16 @@ pub record SameOnConstants (m : Machdep) (k : Kind) (l : ℕ) (a b : ℤ) : Type
 
 abbrev pub OperatorsAreThoseOfConstants : Type 0
 OperatorsAreThoseOfConstants = (m : Machdep) (k : Kind) (l : ℕ) (a b : ℤ) → SameOnConstants m k l a b
+
+-- ---- what is said of several behaviors
+
+-- of those that say that one is there, or of those that say that no two are: the first that isn't so, in the order of the text
+abbrev pub first_broken : (is_complete : Bool) → Facts → World → List Behavior → List Together → Option Stop
+first_broken b p w bs [] = None
+first_broken true p w bs (t ∷ ts) = if t.is_complete then or_stop (together_holds p w bs t) (first_broken true p w bs ts) else first_broken true p w bs ts
+first_broken false p w bs (t ∷ ts) = if t.is_complete then first_broken false p w bs ts else or_stop (together_holds p w bs t) (first_broken false p w bs ts)
+
+-- `complete` is tested before `disjoint`, wherever they stand.
+abbrev pub CompleteComesFirst : Type 0
+CompleteComesFirst = (p : Facts) (w : World) (c : Contract)
+    → entered_well p w c ≡ or_stop (first_broken true p w c.behaviors c.together) (first_broken false p w c.behaviors c.together)

@@ -40,10 +40,11 @@ pub record Contract : Type 0 where
   pub behaviors : List Behavior
   pub together : List Together
 
--- what is claimed of a loop, and how many variables of its function are declared before it
+-- What is claimed of a loop; the line of its clause on what it assigns, 0 where it has none; and how many variables of its function are declared before it.
 pub record Loop : Type 0 where
   pub invariants : List Claim
   pub assigns : Option (List Tree)
+  pub line : ℕ
   pub variant : Option Measure
   pub declared : ℕ
 
@@ -83,7 +84,8 @@ pub record Variable : Type 0 where
 pub record Function (B : Type 0) : Type 0 where
   pub params : ℕ
   pub variables : List Variable
-  pub is_void : Bool
+  -- the kind of what it gives; a function without result has none
+  pub result : Option CellKind
   pub contract : Contract
   pub body : B
   -- the line of its closing brace

@@ -1,5 +1,6 @@
 -- Runs of a program with spelled statements, in so many turns (C11 6.5, 6.8). A call takes a turn, and so does each pass of a loop that begins.
 use Rattle.std.specs.Prelude.{ℕ, zero, suc, Bool, true, false, ◌||◌, if◌then◌else◌, ℤ, pos, List, [], ◌∷◌, Option, Some, None}
+use Rattle.wp_base.specs.declared.kinds.CellKind.{CellKind}
 use Rattle.typed_prog.specs.declared.types.CoreType.{CoreType}
 use Rattle.typed_prog.specs.Types.{void}
 use Rattle.typed_prog.specs.declared.operators.Connective.{Connective}
@@ -209,16 +210,16 @@ abbrev pub Deeper : Type 0
 Deeper = Task → Here → World → Outcome
 
 -- a function without result may run off its end (C11 6.9.1p12; that `main` may not is this project's choice)
-abbrev pub ended : (is_void : Bool) → (end : ℕ) → World → Eval
-ended true l w = gives nought w
-ended false l w = stops (undefined noreturn l)
+abbrev pub ended : (result : Option CellKind) → (end : ℕ) → World → Eval
+ended None l w = gives nought w
+ended (Some k) l w = stops (undefined noreturn l)
 
 abbrev pub returned : Function Stmts → Outcome → Eval
 returned f (returns v w) = gives v w
 returned f (stopped s) = stops s
-returned f (goes_on w) = ended f.is_void f.end w
-returned f (breaks w) = ended f.is_void f.end w
-returned f (continues w) = ended f.is_void f.end w
+returned f (goes_on w) = ended f.result f.end w
+returned f (breaks w) = ended f.result f.end w
+returned f (continues w) = ended f.result f.end w
 
 module _ (p : Program Stmts) (deeper : Deeper) where
   abbrev pub calls : Here → (function line : ℕ) → Vals → Act

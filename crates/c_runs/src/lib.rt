@@ -3,4 +3,4 @@
 
 mod laws;
 
-pub use laws::operators_are_those_of_constants;
+pub use laws::{complete_comes_first, operators_are_those_of_constants};

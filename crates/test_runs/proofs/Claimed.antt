@@ -1,6 +1,6 @@
 -- Runs of the small programs with annotations, by computing them.
 use Rattle.std.proofs.Common.{refl}
-use Rattle.test_runs.specs.Annotations.{Asserts, Sets, Counts, StepsOn, Asks, Splits, GoesDown}
+use Rattle.test_runs.specs.Annotations.{Asserts, Sets, Counts, StepsOn, Asks, Splits, Mixes, GoesDown}
 use Rattle.test_runs.specs.Laws.{RunsAsAnnotated}
 use Rattle.c_runs.specs.Run.{levels}
 use Rattle.c_runs.specs.Values.{applied}
@@ -31,9 +31,13 @@ splits : Splits
 unfolding levels applied write block_at
 splits = record { well = refl; gap = refl; overlap = refl }
 
+mixes : Mixes
+unfolding levels applied write block_at
+mixes = record { well = refl; both = refl }
+
 goes_down : GoesDown
 unfolding levels applied write block_at
 goes_down = record { less = refl; same = refl; negative = refl }
 
 pub runs_as_annotated : RunsAsAnnotated
-runs_as_annotated = record { asserts = asserts; sets = sets; counts = counts; steps_on = steps_on; asks = asks; splits = splits; goes_down = goes_down }
+runs_as_annotated = record { asserts = asserts; sets = sets; counts = counts; steps_on = steps_on; asks = asks; splits = splits; mixes = mixes; goes_down = goes_down }

@@ -49,7 +49,7 @@ leaves_switch = record { inside = refl; behind = refl }
 
 computes : Computes
 unfolding levels applied write block_at
-computes = record { towards_zero = refl; sign_of_first = refl; by_zero = refl; no_quotient = refl; no_remainder = refl; product = refl; shifted = refl; too_far = refl; negative = refl; right = refl; off_the_end = refl }
+computes = record { towards_zero = refl; sign_of_first = refl; by_zero = refl; no_quotient = refl; no_remainder = refl; product = refl; shifted = refl; too_far = refl; negative = refl; right = refl; off_the_end = refl; no_result = refl }
 
 pub runs_as_c : RunsAsC
 runs_as_c = record { falls_through = falls_through; goes_round = goes_round; counts_on = counts_on; recurs = recurs; stops_early = stops_early; reads_unset = reads_unset; takes_contents = takes_contents; points = points; dangles = dangles; leaves_switch = leaves_switch; computes = computes }

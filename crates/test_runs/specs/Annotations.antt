@@ -1,5 +1,5 @@
 -- Small programs with annotations, each with what its runs come to by ACSL, worked out by hand.
-use Rattle.std.specs.Prelude.{◌≡◌, ℕ, true, false, ℤ, pos, negsuc, [], ◌∷◌, Some, None}
+use Rattle.std.specs.Prelude.{◌≡◌, ℕ, true, false, ℤ, pos, negsuc, [], ◌∷◌, ◌++◌, Some, None}
 use Rattle.wp_base.specs.declared.kinds.Kind.TheVariants as kind
 use Rattle.typed_prog.specs.declared.operators.Arithmetic.TheVariants as ar
 use Rattle.typed_prog.specs.declared.operators.Comparison.{Comparison}
@@ -68,6 +68,7 @@ abbrev pub counted : Tree → Loop
 counted v = record {
   invariants = at_line 2 (is cmp.AtMost (it 1) (lit (pos 3))) ∷ [];
   assigns = None;
+  line = 0;
   variant = Some (record { what = v; line = 3 });
   declared = 2;
 }
@@ -133,6 +134,21 @@ pub record Splits : Type 0 where
   pub well : outcome (splits (pos 0)) (pos 0 ∷ []) 1 [] ≡ returned (pos 0) 0
   pub gap : outcome (splits (pos 1)) (pos 0 ∷ []) 1 [] ≡ broke complete 3
   pub overlap : outcome (splits (negsuc 1)) (negsuc 0 ∷ []) 1 [] ≡ broke disjoint 4
+
+-- ---- with a third one, `assumes n > 0;`: that the first two are disjoint (line 3), and that the third one is complete (line 4), which is tested first
+
+abbrev pub in_disorder : ℤ → Contract
+in_disorder z = record (in_turn z) {
+  behaviors = (in_turn z).behaviors ++ assumed (is cmp.Greater (it 0) (lit (pos 0))) ∷ [];
+  together = record { is_complete = false; numbers = 0 ∷ 1 ∷ []; line = 3 } ∷ record { is_complete = true; numbers = 2 ∷ []; line = 4 } ∷ [];
+}
+
+abbrev pub mixes : ℤ → Program Stmts
+mixes z = file_of [] (under (in_disorder z) (function_of 1 (with_value ∷ []) (return_of (Some (var 0 5)) ∷ [])) ∷ [])
+
+pub record Mixes : Type 0 where
+  pub well : outcome (mixes (pos 0)) (pos 1 ∷ []) 1 [] ≡ returned (pos 1) 0
+  pub both : outcome (mixes (negsuc 1)) (negsuc 0 ∷ []) 1 [] ≡ broke complete 4
 
 -- ---- `decreases n;` and a call on line 6 with `n - 1`, or with n (ACSL 2.5.3)
 

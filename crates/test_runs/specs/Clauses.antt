@@ -34,7 +34,7 @@ abbrev pub gives_zero : Stmt
 gives_zero = return_of (Some (num (pos 0)))
 
 abbrev pub under_loop : (declared : ℕ) → Option (List Tree) → List Claim → Loop
-under_loop n s cs = record { invariants = cs; assigns = s; variant = None; declared = n }
+under_loop n s cs = record { invariants = cs; assigns = s; line = 0; variant = None; declared = n }
 
 abbrev pub forever : Option Value
 forever = Some (num (pos 1))

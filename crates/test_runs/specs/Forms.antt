@@ -1,5 +1,5 @@
 -- Short words to write programs with, and what is looked at of an outcome.
-use Rattle.std.specs.Prelude.{ℕ, Bool, true, false, ℤ, pos, List, [], ◌∷◌, map, None, slice_get}
+use Rattle.std.specs.Prelude.{ℕ, Bool, true, false, ℤ, pos, List, [], ◌∷◌, map, Some, None, slice_get}
 use Rattle.wp_base.specs.declared.kinds.Kind.TheVariants as kind
 use Rattle.wp_base.specs.declared.kinds.CellKind.TheVariants as cell
 use Rattle.wp_base.specs.declared.kinds.Layout.{Layout}
@@ -109,9 +109,9 @@ no_clauses = record { assumes = []; requires = []; ensures = []; assigns = None 
 abbrev pub no_contract : Contract
 no_contract = record { plain = no_clauses; decreases = None; behaviors = []; together = [] }
 
--- with so many parameters, which are the first variables
+-- of type `int`, with so many parameters, which are the first variables
 abbrev pub function_of : (params : ℕ) → List Variable → List Stmt → Function Stmts
-function_of n xs ss = record { params = n; variables = xs; is_void = false; contract = no_contract; body = stmts ss; end = 99 }
+function_of n xs ss = record { params = n; variables = xs; result = Some (cell.Of kind.Int); contract = no_contract; body = stmts ss; end = 99 }
 
 abbrev pub file_of : List Variable → List (Function Stmts) → Program Stmts
 file_of gs fs = record {

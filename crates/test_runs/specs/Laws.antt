@@ -1,6 +1,6 @@
 -- What these programs come to, together.
 use Rattle.test_runs.specs.Programs.{FallsThrough, GoesRound, CountsOn, Recurs, StopsEarly, ReadsUnset, TakesContents, Points, Dangles, LeavesSwitch, Computes}
-use Rattle.test_runs.specs.Annotations.{Asserts, Sets, Counts, StepsOn, Asks, Splits, GoesDown}
+use Rattle.test_runs.specs.Annotations.{Asserts, Sets, Counts, StepsOn, Asks, Splits, Mixes, GoesDown}
 
 pub record RunsAsC : Type 0 where
   pub falls_through : FallsThrough
@@ -22,4 +22,5 @@ pub record RunsAsAnnotated : Type 0 where
   pub steps_on : StepsOn
   pub asks : Asks
   pub splits : Splits
+  pub mixes : Mixes
   pub goes_down : GoesDown

@@ -11,7 +11,7 @@ use Rattle.c_runs.specs.Operators.{init, overflow, divzero, shift, access, index
 use Rattle.test_runs.specs.Forms.{int, num, local, element, read, var, pointed, calc, test, assign, update, call, decayed, moved, stmts, with_value, without_value, array, a_pointer, function_of, file_of, outcome, returned, ran_out, went_wrong}
 
 abbrev pub no_claims : (declared : ℕ) → Loop
-no_claims n = record { invariants = []; assigns = None; variant = None; declared = n }
+no_claims n = record { invariants = []; assigns = None; line = 0; variant = None; declared = n }
 
 -- ---- `switch (x) { case 1: y = 10; case 2: y = y + 1; break; default: y = 5; } return y;` with `int y = 0` before (C11 6.8.4.2)
 
@@ -150,6 +150,9 @@ computes o = file_of [] (function_of 2 (with_value ∷ with_value ∷ []) (retur
 abbrev pub falls_off : Program Stmts
 falls_off = file_of [] (function_of 0 [] [] ∷ [])
 
+abbrev pub gives_nothing : Program Stmts
+gives_nothing = file_of [] (record (function_of 0 [] []) { result = None } ∷ [])
+
 pub record Computes : Type 0 where
   pub towards_zero : outcome (computes ar.Div) (negsuc 6 ∷ pos 2 ∷ []) 1 [] ≡ returned (negsuc 2) 0
   pub sign_of_first : outcome (computes ar.Rem) (negsuc 6 ∷ pos 2 ∷ []) 1 [] ≡ returned (negsuc 0) 0
@@ -162,3 +165,4 @@ pub record Computes : Type 0 where
   pub negative : outcome (computes ar.Shl) (negsuc 0 ∷ pos 1 ∷ []) 1 [] ≡ went_wrong overflow 4
   pub right : outcome (computes ar.Shr) (negsuc 4 ∷ pos 1 ∷ []) 1 [] ≡ returned (negsuc 2) 0
   pub off_the_end : outcome falls_off [] 1 [] ≡ went_wrong noreturn 99
+  pub no_result : outcome gives_nothing [] 1 [] ≡ returned (pos 0) 0

@@ -60,7 +60,7 @@ abbrev pub function_of : Function Cores → Function Steps
 function_of f = record {
   params = f.params;
   variables = f.variables;
-  is_void = f.is_void;
+  result = f.result;
   contract = f.contract;
   body = steps_of f.variables f.body;
   end = f.end;

@@ -81,8 +81,8 @@ Deeper = Task → Here → CoreWorld → Ending
 abbrev pub returned : Function Steps → Ending → Eval
 returned f (returns v c) = gives v c.world
 returned f (stopped s) = stops s
-returned f (goes_on c) = spelled.ended f.is_void f.end c.world
-returned f (exits k c) = spelled.ended f.is_void f.end c.world
+returned f (goes_on c) = spelled.ended f.result f.end c.world
+returned f (exits k c) = spelled.ended f.result f.end c.world
 
 module _ (p : Program Steps) (deeper : Deeper) where
   abbrev pub calls : Here → (function line : ℕ) → List Value → Act

@@ -84,8 +84,8 @@ Deeper = Task → Here → CoreWorld → Ending
 abbrev pub returned : Function Cores → Ending → Eval
 returned f (returns v c) = gives v c.world
 returned f (stopped s) = stops s
-returned f (goes_on c) = spelled.ended f.is_void f.end c.world
-returned f (exits k c) = spelled.ended f.is_void f.end c.world
+returned f (goes_on c) = spelled.ended f.result f.end c.world
+returned f (exits k c) = spelled.ended f.result f.end c.world
 
 -- a body begins without temporaries
 abbrev pub begun : World → CoreWorld

@@ -203,7 +203,7 @@ abbrev pub normal_function : Function Stmts → Function Cores
 normal_function f = record {
   params = f.params;
   variables = f.variables;
-  is_void = f.is_void;
+  result = f.result;
   contract = f.contract;
   body = (stmts f.variables 0 0 0 f.body).did;
   end = f.end;

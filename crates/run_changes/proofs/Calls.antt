@@ -5,7 +5,7 @@ use Rattle.std.specs.List.{list_all, list_any}
 use Rattle.acsl_truth.specs.States.{Value, World as Meant}
 use Rattle.c_runs.specs.Program.{Claim, Measure, Behavior, Together, Contract, Loop, Function, Facts}
 use Rattle.c_runs.specs.States.{World, Memory, Here}
-use Rattle.c_runs.specs.Claims.{Broken, requires, complete, disjoint, ensures, invariant, decreases, variant_positive, variant_less, Stop, or_stop, unless_true, holds, is_assumed, claimed, parts_of, is_required, required, in_state, at_return, ensured_by, ensured, is_so, assumed_of, one_at_most, together_holds, all_together, entered_well, measure_of, number_at, is_less, goes_down, decreased, variant_holds, at_head, at_entry, here_in}
+use Rattle.c_runs.specs.Claims.{Broken, requires, complete, disjoint, ensures, invariant, decreases, variant_positive, variant_less, Stop, or_stop, unless_true, holds, is_assumed, claimed, parts_of, is_required, required, in_state, at_return, ensured_by, ensured, is_so, assumed_of, one_at_most, together_holds, all_together, in_order, entered_well, measure_of, number_at, is_less, goes_down, decreased, variant_holds, at_head, at_entry, here_in}
 use Rattle.c_runs.specs.Scopes.{arrived}
 use Rattle.c_runs.specs.Calls.{Eval, gives, stops, Act, unless, turn_by, turn, back_in, keeps_promises, Runner, entered_by, called_by, found}
 use Rattle.run_changes.proofs.Tables.{if_by}
@@ -92,7 +92,7 @@ module _ (rs : List Value) (before : Memory) where
     kept_body : (f : Function B) (here : Here) (vs : List Value) → IsBounded rs before here.granted → KeptAct (entered_by p go f here vs)
     kept_body f here vs i w a =
         let ran = go f here (arrived f.variables vs w) in
-        kept_unless (entered_well p (at_entry p vs w.memory) f.contract) (keeps_promises p here f.contract (back_in w ran)) (told_all p (at_entry p vs w.memory) f.contract.behaviors f.contract.together)
+        kept_unless (entered_well p (at_entry p vs w.memory) f.contract) (keeps_promises p here f.contract (back_in w ran)) (told_all p (at_entry p vs w.memory) f.contract.behaviors (in_order f.contract.together))
         (kept_promises p here f.contract (back_in w ran) (kept_back w ran a (runs f here i (arrived f.variables vs w) (kept_arrived rs before f.variables vs w a))))
 
     pub kept_called : (here : Here) (n l : ℕ) (f : Function B) (vs : List Value) (w : World) → IsBounded rs before (here_in p n vs w.memory f.contract here.granted).granted → KeptWorld rs before w

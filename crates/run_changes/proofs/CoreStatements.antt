@@ -1,5 +1,6 @@
 -- Statements of core programs, and whole runs of them.
 use Rattle.std.proofs.Common.{ℕ, zero, suc, ℤ, Bool, true, false, if◌then◌else◌, List, Option, Some, None}
+use Rattle.wp_base.specs.declared.kinds.CellKind.{CellKind}
 use Rattle.typed_prog.specs.declared.types.CoreType.{CoreType}
 use Rattle.typed_prog.specs.declared.operators.Path.{Path}
 use Rattle.typed_prog.specs.Tree as tree
@@ -76,15 +77,15 @@ module _ (rs : List Value) (before : Memory) where
 
   -- ---- bodies of functions
 
-  kept_ended : (is_void : Bool) (l : ℕ) (w : World) → KeptWorld rs before w → KeptEval rs before (spelled.ended is_void l w)
-  kept_ended true l w k = k
-  kept_ended false l w k = tt
+  kept_ended : (result : Option CellKind) (l : ℕ) (w : World) → KeptWorld rs before w → KeptEval rs before (spelled.ended result l w)
+  kept_ended None l w k = k
+  kept_ended (Some r) l w k = tt
 
   kept_returned : (f : Function Cores) (o : Ending) → KeptEnding o → KeptEval rs before (returned f o)
   kept_returned f (returns v c) k = k
   kept_returned f (stopped s) k = k
-  kept_returned f (goes_on c) k = kept_ended f.is_void f.end c.world k
-  kept_returned f (exits n c) k = kept_ended f.is_void f.end c.world k
+  kept_returned f (goes_on c) k = kept_ended f.result f.end c.world k
+  kept_returned f (exits n c) k = kept_ended f.result f.end c.world k
 
   module _ (p : Program Cores) (deeper : Deeper) (below : AllKeep deeper) where
     pub kept_bodies : (f : Function Cores) (here : Here) → IsBounded rs before here.granted → KeptAct rs before (λ w. returned f (deeper (body f) here (begun w)))

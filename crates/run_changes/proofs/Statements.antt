@@ -1,5 +1,6 @@
 -- Statements as they are spelled, and whole runs of them.
 use Rattle.std.proofs.Common.{ℕ, zero, suc, ℤ, Bool, true, false, if◌then◌else◌, List, Option, Some, None}
+use Rattle.wp_base.specs.declared.kinds.CellKind.{CellKind}
 use Rattle.typed_prog.specs.Tree as tree
 use Rattle.acsl_truth.specs.States.{Value, number_of}
 use Rattle.c_runs.specs.Program.{Loop, Stmt, evaluate, block, initial, choose, loop, switch, case_of, default, break, continue, return_of, assert, Stmts, stop, more, Variable, Function, Program}
@@ -78,16 +79,16 @@ module _ (rs : List Value) (before : Memory) where
 
   -- ---- bodies of functions
 
-  kept_ended : (is_void : Bool) (l : ℕ) (w : World) → KeptWorld rs before w → KeptEval rs before (ended is_void l w)
-  kept_ended true l w k = k
-  kept_ended false l w k = tt
+  kept_ended : (result : Option CellKind) (l : ℕ) (w : World) → KeptWorld rs before w → KeptEval rs before (ended result l w)
+  kept_ended None l w k = k
+  kept_ended (Some r) l w k = tt
 
   kept_returned : (f : Function Stmts) (o : Outcome) → KeptOutcome o → KeptEval rs before (returned f o)
   kept_returned f (returns v w) k = k
   kept_returned f (stopped s) k = k
-  kept_returned f (goes_on w) k = kept_ended f.is_void f.end w k
-  kept_returned f (breaks w) k = kept_ended f.is_void f.end w k
-  kept_returned f (continues w) k = kept_ended f.is_void f.end w k
+  kept_returned f (goes_on w) k = kept_ended f.result f.end w k
+  kept_returned f (breaks w) k = kept_ended f.result f.end w k
+  kept_returned f (continues w) k = kept_ended f.result f.end w k
 
   module _ (p : Program Stmts) (deeper : Deeper) (below : AllKeep deeper) where
     pub kept_bodies : (f : Function Stmts) (here : Here) → IsBounded rs before here.granted → KeptAct rs before (λ w. returned f (deeper (body f) here w))

@@ -2,12 +2,13 @@
 use Rattle.std.proofs.Common.{◌≡◌, ℕ, zero, suc, Bool, true, false, List, [], ◌∷◌, refl, sym, subst, Option, Some, None}
 use Rattle.std.specs.List.{list_any}
 use Rattle.std.proofs.lemmas.Bool.{and_parts, false≢true}
+use Rattle.wp_base.specs.declared.kinds.CellKind.{CellKind}
 use Rattle.typed_prog.specs.Tree as t
 use Rattle.acsl_truth.specs.States.{Value, World as Labelled}
 use Rattle.c_runs.specs.Program.{Claim, Behavior, Together, Variable, Function, Facts, Program}
 use Rattle.c_runs.specs.States.{World, Memory, Here, is_nonzero}
 use Rattle.c_runs.specs.Claims as broken
-use Rattle.c_runs.specs.Claims.{Stop, holds, in_body, in_state, at_entry, at_return, is_assumed, assumed_of, is_so, one_at_most, parts_of, here_in}
+use Rattle.c_runs.specs.Claims.{Stop, holds, in_body, in_state, at_entry, at_return, is_assumed, assumed_of, is_so, one_at_most, in_order, parts_of, here_in}
 use Rattle.c_runs.specs.Scopes.{entered, arrived}
 use Rattle.c_runs.specs.Calls.{Eval, gives, stops}
 use Rattle.core_runs.specs.Run.{CoreWorld, Ending, goes_on, exits, returns, stopped, in_world, begun}
@@ -175,16 +176,16 @@ promises_of : (p : Facts) (v w : Labelled) (bs : List Behavior) → (o : Option 
 promises_of p v w [] = (None, seg.all_kept)
 promises_of p v w (b ∷ bs) = promise_by p v w b bs (promises_of p v w bs) (is_assumed p v b) refl
 
-body_of : (f : Function Steps) (o : Ending) (b : Bool) → f.is_void ≡ b → (e : Eval) × BodyEnds f o e
-body_of f (goes_on c) true h = (_, seg.at_brace h)
-body_of f (goes_on c) false h = (_, seg.without_result h)
-body_of f (exits k c) true h = (_, seg.left_at_brace h)
-body_of f (exits k c) false h = (_, seg.left_without_result h)
-body_of f (returns v c) b h = (_, seg.BodyEnds.by_return)
-body_of f (stopped s) b h = (_, seg.BodyEnds.by_stop)
+body_of : (f : Function Steps) (o : Ending) (r : Option CellKind) → f.result ≡ r → (e : Eval) × BodyEnds f o e
+body_of f (goes_on c) None h = (_, seg.at_brace h)
+body_of f (goes_on c) (Some k) h = (_, seg.without_result h)
+body_of f (exits n c) None h = (_, seg.left_at_brace h)
+body_of f (exits n c) (Some k) h = (_, seg.left_without_result h)
+body_of f (returns v c) r h = (_, seg.BodyEnds.by_return)
+body_of f (stopped s) r h = (_, seg.BodyEnds.by_stop)
 
 function_by : (q : Program Steps) (k : ℕ) (f : Function Steps) (vs : List Value) (w : World)
-    → Behaves q.facts (at_entry q.facts vs w.memory) f.contract.behaviors f.contract.together None
+    → Behaves q.facts (at_entry q.facts vs w.memory) f.contract.behaviors (in_order f.contract.together) None
     → (o : Ending) → AllRun q f.variables (here_in q.facts k vs w.memory f.contract []) f.body (begun (arrived f.variables vs w)) o
     → (e : Eval) → BodyEnds f o e → (e : Eval) × FunctionRuns q k f vs w e
 function_by q k f vs w h o r (stops s) x = (_, seg.goes_wrong h r x)
@@ -199,14 +200,14 @@ function_by q k f vs w h o r (gives v u) x =
 
 pub function_ends : (q : Program Steps) (k : ℕ) (f : Function Steps) → are_straight f.body ≡ true → (vs : List Value) (w : World)
     → (e : Eval) × FunctionRuns q k f vs w e
-function_ends q k f h vs w = entered_by_ (behaves_of q.facts (at_entry q.facts vs w.memory) f.contract.behaviors f.contract.together)
+function_ends q k f h vs w = entered_by_ (behaves_of q.facts (at_entry q.facts vs w.memory) f.contract.behaviors (in_order f.contract.together))
   where
-    entered_by_ : ((o : Option Stop) × Behaves q.facts (at_entry q.facts vs w.memory) f.contract.behaviors f.contract.together o)
+    entered_by_ : ((o : Option Stop) × Behaves q.facts (at_entry q.facts vs w.memory) f.contract.behaviors (in_order f.contract.together) o)
         → (e : Eval) × FunctionRuns q k f vs w e
     entered_by_ (Some s, r) = (_, seg.not_entered r)
     entered_by_ (None, r) =
         let ended = all_end q f.variables (here_in q.facts k vs w.memory f.contract []) f.body h (begun (arrived f.variables vs w)) in
-        let left_ = body_of f ended.0 f.is_void refl in
+        let left_ = body_of f ended.0 f.result refl in
         function_by q k f vs w r ended.0 ended.1 left_.0 left_.1
 
 pub runs_are_segment_runs : RunsAreSegmentRuns

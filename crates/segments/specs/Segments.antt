@@ -2,6 +2,7 @@
 -- A segment has no loop and no call yet: where one stands, none of these runs goes on.
 use Rattle.std.specs.Prelude.{◌≡◌, ℕ, suc, Bool, true, false, List, [], ◌∷◌, Option, Some, None}
 use Rattle.std.specs.List.{list_any}
+use Rattle.wp_base.specs.declared.kinds.CellKind.{CellKind}
 use Rattle.typed_prog.specs.declared.types.CoreType.{CoreType}
 use Rattle.typed_prog.specs.declared.operators.Path.{Path}
 use Rattle.typed_prog.specs.Tree as t
@@ -11,7 +12,7 @@ use Rattle.c_runs.specs.States.{World, Memory, Here, is_nonzero, plain, with_loc
 use Rattle.c_runs.specs.Operators.{noreturn}
 use Rattle.c_runs.specs.Objects.{plain_root, cell_of, address}
 use Rattle.c_runs.specs.Claims as broken
-use Rattle.c_runs.specs.Claims.{Stop, undefined, failed, holds, in_body, in_state, at_entry, at_return, is_assumed, assumed_of, is_so, one_at_most, parts_of, may_change, may_change_local, here_in}
+use Rattle.c_runs.specs.Claims.{Stop, undefined, failed, holds, in_body, in_state, at_entry, at_return, is_assumed, assumed_of, is_so, one_at_most, in_order, parts_of, may_change, may_change_local, here_in}
 use Rattle.c_runs.specs.Scopes.{entered, left, arrived}
 use Rattle.c_runs.specs.Calls.{Eval, gives, stops, nought}
 use Rattle.c_runs.specs.Effects.{kind_there, initial_act}
@@ -165,10 +166,10 @@ pub data Promises (p : Facts) (before behind : Labelled) : List Behavior → Opt
 -- how a body ends: by a return with a value, or at its closing brace
 pub data BodyEnds (f : Function Steps) : Ending → Eval → Type 0 where
   by_return : {v : Value} {c : CoreWorld} → BodyEnds f (returns v c) (gives v c.world)
-  at_brace : {c : CoreWorld} → f.is_void ≡ true → BodyEnds f (goes_on c) (gives nought c.world)
-  without_result : {c : CoreWorld} → f.is_void ≡ false → BodyEnds f (goes_on c) (stops (undefined noreturn f.end))
-  left_at_brace : {k : ℕ} {c : CoreWorld} → f.is_void ≡ true → BodyEnds f (exits k c) (gives nought c.world)
-  left_without_result : {k : ℕ} {c : CoreWorld} → f.is_void ≡ false → BodyEnds f (exits k c) (stops (undefined noreturn f.end))
+  at_brace : {c : CoreWorld} → f.result ≡ None → BodyEnds f (goes_on c) (gives nought c.world)
+  without_result : {k : CellKind} {c : CoreWorld} → f.result ≡ Some k → BodyEnds f (goes_on c) (stops (undefined noreturn f.end))
+  left_at_brace : {n : ℕ} {c : CoreWorld} → f.result ≡ None → BodyEnds f (exits n c) (gives nought c.world)
+  left_without_result : {n : ℕ} {k : CellKind} {c : CoreWorld} → f.result ≡ Some k → BodyEnds f (exits n c) (stops (undefined noreturn f.end))
   by_stop : {s : Stop} → BodyEnds f (stopped s) (stops s)
 
 -- the caller's variables are as they were, and the blocks of the call are gone
@@ -177,17 +178,17 @@ behind_call w u = record (left w.memory [] u) { locals = w.locals }
 
 -- a function by its number, where what it requires holds
 pub data FunctionRuns (q : Program Steps) (number : ℕ) (f : Function Steps) (vs : List Value) (w : World) : Eval → Type 0 where
-  not_entered : {s : Stop} → Behaves q.facts (at_entry q.facts vs w.memory) f.contract.behaviors f.contract.together (Some s) → FunctionRuns q number f vs w (stops s)
-  goes_wrong : {o : Ending} {s : Stop} → Behaves q.facts (at_entry q.facts vs w.memory) f.contract.behaviors f.contract.together None
+  not_entered : {s : Stop} → Behaves q.facts (at_entry q.facts vs w.memory) f.contract.behaviors (in_order f.contract.together) (Some s) → FunctionRuns q number f vs w (stops s)
+  goes_wrong : {o : Ending} {s : Stop} → Behaves q.facts (at_entry q.facts vs w.memory) f.contract.behaviors (in_order f.contract.together) None
       → AllRun q f.variables (here_in q.facts number vs w.memory f.contract []) f.body (begun (arrived f.variables vs w)) o → BodyEnds f o (stops s)
       → FunctionRuns q number f vs w (stops s)
   breaks_promise : {o : Ending} {v : Value} {u : World} {s : Stop}
-      → Behaves q.facts (at_entry q.facts vs w.memory) f.contract.behaviors f.contract.together None
+      → Behaves q.facts (at_entry q.facts vs w.memory) f.contract.behaviors (in_order f.contract.together) None
       → AllRun q f.variables (here_in q.facts number vs w.memory f.contract []) f.body (begun (arrived f.variables vs w)) o → BodyEnds f o (gives v u)
       → Promises q.facts (in_state q.facts (here_in q.facts number vs w.memory f.contract []).entry)
       (at_return q.facts (here_in q.facts number vs w.memory f.contract []) (behind_call w u).memory v) (parts_of f.contract) (Some s)
       → FunctionRuns q number f vs w (stops s)
-  returns_well : {o : Ending} {v : Value} {u : World} → Behaves q.facts (at_entry q.facts vs w.memory) f.contract.behaviors f.contract.together None
+  returns_well : {o : Ending} {v : Value} {u : World} → Behaves q.facts (at_entry q.facts vs w.memory) f.contract.behaviors (in_order f.contract.together) None
       → AllRun q f.variables (here_in q.facts number vs w.memory f.contract []) f.body (begun (arrived f.variables vs w)) o → BodyEnds f o (gives v u)
       → Promises q.facts (in_state q.facts (here_in q.facts number vs w.memory f.contract []).entry)
       (at_return q.facts (here_in q.facts number vs w.memory f.contract []) (behind_call w u).memory v) (parts_of f.contract) None

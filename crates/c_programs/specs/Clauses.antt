@@ -1,6 +1,6 @@
 -- Contracts and annotations of loops as runs read them, out of typed clauses in the order of the text (ACSL 2.3, 2.4.2).
 use Rattle.std.specs.Prelude.{ℕ, ◌==◌, if◌then◌else◌, Bool, true, false, List, [], ◌∷◌, Option, Some, None}
-use Rattle.std.specs.Option.{option_map}
+use Rattle.std.specs.Option.{option_map, unwrap_or}
 use Rattle.std.specs.List.{filter_map}
 use Rattle.acsl_trees.specs.Tree.{Tree}
 use Rattle.acsl_clauses.specs.declared.items.Role.{Role}
@@ -92,12 +92,19 @@ first f (x ∷ xs) = or_else (f x) (first f xs)
 abbrev pub regions_at : TypedClause → Option (List Tree)
 regions_at x = regions_by x.said
 
+-- the line of a clause on what is assigned
+abbrev pub assigns_line : TypedClause → Option ℕ
+assigns_line x = option_map (λ ts. x.line) (regions_at x)
+
 abbrev pub measure_at : TypedClause → Option Measure
 measure_at x = measure_by x.line x.said
 
 -- a contract, a behavior or a loop has one such clause at most
 abbrev pub regions_in : List TypedClause → Option (List Tree)
 regions_in xs = first regions_at xs
+
+abbrev pub assigns_line_in : List TypedClause → Option ℕ
+assigns_line_in xs = first assigns_line xs
 
 abbrev pub measure_in : List TypedClause → Option Measure
 measure_in xs = first measure_at xs
@@ -132,4 +139,10 @@ contract_of xs = record { plain = behavior_of (own xs); decreases = measure_in x
 
 -- a loop before which so many variables are declared
 abbrev pub loop_with : (declared : ℕ) → List TypedClause → Loop
-loop_with n xs = record { invariants = claims_in role.Invariant xs; assigns = regions_in xs; variant = measure_in xs; declared = n }
+loop_with n xs = record {
+  invariants = claims_in role.Invariant xs;
+  assigns = regions_in xs;
+  line = unwrap_or (assigns_line_in xs) 0;
+  variant = measure_in xs;
+  declared = n;
+}

@@ -15,6 +15,7 @@ use Rattle.acsl_notes.specs.Notes.{Note}
 use Rattle.acsl_typing.specs.Annotations.{Annotation, Annotations, of_function, of_definition}
 use Rattle.acsl_annotated.specs.Annotated.{meant_from}
 use Rattle.c_runs.specs.Program.{Stmts, Variable, Function, Facts, Program}
+use Rattle.c_runs.specs.Objects.{cell_of}
 use Rattle.c_programs.specs.Clauses.{contract_of}
 use Rattle.c_programs.specs.Bodies.{placed, valued}
 use Rattle.c_programs.specs.Clusters.{at, call_each_other}
@@ -85,11 +86,15 @@ text_of f (b ∷ bs) (ns ∷ nss) = if b.function == f then Some (record { body 
 abbrev pub values_of : (params : ℕ) → u.Body → List Bool
 values_of n b = replicate n true ++ valued b.stmt
 
+-- the kind of what a function of this type gives, which is a scalar
+abbrev pub result_of : CoreType → Option CellKind
+result_of type = if is_void type then None else Some (cell_of type)
+
 abbrev pub function_with : List Structure → Signature → List TypedClause → Text → Function Stmts
 function_with ss g cs x = record {
   params = length g.params;
   variables = variables_from ss x.body.plain (values_of (length g.params) x.body) 0 x.body.locals;
-  is_void = is_void g.result;
+  result = result_of g.result;
   contract = contract_of cs;
   body = (placed x.body.stmt x.notes (length g.params)).stmts;
   end = x.body.end;

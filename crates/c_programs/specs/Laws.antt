@@ -5,12 +5,12 @@ use Rattle.c_scopes.specs.declared.symbols.Object.{Object}
 use Rattle.acsl_expand.specs.Expansion.{Definition}
 use Rattle.acsl_notes.specs.Notes.{Enclosing, Note, Noted, noted}
 use Rattle.acsl_annotated.specs.Annotated.{note_expanded}
-use Rattle.c_runs.specs.Program.{Stmts, Behavior, Contract}
+use Rattle.c_runs.specs.Program.{Stmts, Behavior, Contract, Loop}
 use Rattle.acsl_trees.specs.Tree.{Tree}
 use Rattle.acsl_clauses.specs.declared.items.Role.{Role}
 use Rattle.acsl_clauses.specs.declared.items.Role.TheVariants as role
 use Rattle.acsl_clauses.specs.Typed.{Said, TypedClause, claims, decreases, assigns, begins, together}
-use Rattle.c_programs.specs.Clauses.{claim_of, measure_of, together_of, contract_of}
+use Rattle.c_programs.specs.Clauses.{claim_of, measure_of, together_of, contract_of, loop_with}
 use Rattle.c_programs.specs.Bodies.{Placed, placed}
 use Rattle.c_programs.specs.Placing.{Becomes}
 
@@ -43,6 +43,30 @@ read_back (x ∷ xs) = with_said x.line x.said (read_back xs)
 -- So no clause is lost, and each stands in its part and in its order.
 abbrev pub ContractsAreRead : Type 0
 ContractsAreRead = (xs : List TypedClause) → contract_of xs ≡ read_back xs
+
+-- ---- what is claimed of a loop, clause by clause from the end
+
+abbrev pub no_claims : (declared : ℕ) → Loop
+no_claims n = record { invariants = []; assigns = None; line = 0; variant = None; declared = n }
+
+abbrev pub with_invariant : (line : ℕ) → Role → Tree → Loop → Loop
+with_invariant l role.Invariant t k = record k { invariants = claim_of l t ∷ k.invariants }
+with_invariant l r t k = k
+
+abbrev pub with_loop_said : (line : ℕ) → Said → Loop → Loop
+with_loop_said l (claims r t) k = with_invariant l r t k
+with_loop_said l (decreases t) k = record k { variant = Some (measure_of l t) }
+with_loop_said l (assigns ts) k = record k { assigns = Some ts; line = l }
+with_loop_said l (begins n) k = k
+with_loop_said l (together g ns) k = k
+
+abbrev pub loop_read_back : (declared : ℕ) → List TypedClause → Loop
+loop_read_back n [] = no_claims n
+loop_read_back n (x ∷ xs) = with_loop_said x.line x.said (loop_read_back n xs)
+
+-- So a set of regions has the line of its own clause.
+abbrev pub LoopsAreRead : Type 0
+LoopsAreRead = (n : ℕ) (xs : List TypedClause) → loop_with n xs ≡ loop_read_back n xs
 
 -- ---- each annotation stands in its place
 

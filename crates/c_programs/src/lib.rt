@@ -3,4 +3,6 @@
 
 mod laws;
 
-pub use laws::{bodies_are_noted, bodies_are_placed, contracts_are_read, notes_are_placed};
+pub use laws::{
+    bodies_are_noted, bodies_are_placed, contracts_are_read, loops_are_read, notes_are_placed,
+};

@@ -50,7 +50,7 @@ abbrev pub view_checked_function : CheckedFunction → p.Function k.Steps
 view_checked_function x = record {
   params = x.params;
   variables = view_variables x.variables.now;
-  is_void = x.is_void;
+  result = x.result;
   contract = view_contract x.contract.now;
   body = view_steps x.body;
   end = x.end;

@@ -2,14 +2,15 @@
 use crate::steps::Step;
 use core_trees::FunctionVariable;
 use program_trees::{Contract, Facts};
-use wp_base::{Line, List};
+use wp_base::{CellKind, Line, List};
 
 /// A function. What its body doesn't change is that of the core program.
 #[derive(Drop)]
 pub struct CheckedFunction<'a> {
     pub params: u32,
     pub variables: &'a List<FunctionVariable>,
-    pub is_void: bool,
+    /// The kind of what it gives; a function without result has none.
+    pub result: Option<CellKind>,
     pub contract: &'a Contract,
     pub body: List<Step<'a>>,
     pub end: Line,

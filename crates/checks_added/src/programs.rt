@@ -25,7 +25,7 @@ fn function_of<'a, 'b>(
     Ok(CheckedFunction {
         params: function.params,
         variables: function.variables,
-        is_void: function.is_void,
+        result: function.result,
         contract: function.contract,
         body,
         end: function.end,

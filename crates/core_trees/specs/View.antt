@@ -24,6 +24,7 @@ abbrev pub view_loop : Loop → p.Loop
 view_loop x = record {
   invariants = map view_claim x.invariants;
   assigns = option_map view_trees x.assigns;
+  line = x.line;
   variant = option_map view_measure x.variant;
   declared = x.declared;
 }

@@ -16,12 +16,13 @@ pub struct Measure {
     pub line: Line,
 }
 
-/// What is claimed of a loop (ACSL 2.4.2), and how many variables of its function are declared before it. Without a set of regions,
-/// any change is allowed.
+/// What is claimed of a loop (ACSL 2.4.2); the line of its clause on what it assigns, 0 where it has none; and how many variables of
+/// its function are declared before it. Without a set of regions, any change is allowed.
 #[derive(Drop)]
 pub struct Loop {
     pub invariants: List<Claim>,
     pub assigns: Option<List<Tree>>,
+    pub line: Line,
     pub variant: Option<Measure>,
     pub declared: u32,
 }

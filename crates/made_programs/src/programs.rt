@@ -20,6 +20,7 @@ use call_clusters::clusters_of;
 use placed_bodies::{body_placed, contract_of};
 use program_trees::{Facts, Function, Program};
 use std::alloc::Global;
+use typed_prog::CoreType;
 use typed_unit::Typed;
 use wp_base::{CellKind, List, NoMemory};
 
@@ -34,6 +35,18 @@ fn params_of(signature: &Signature) -> Result<u32, NoMemory>
         return Err(NoMemory);
     }
     Ok(count as u32)
+}
+
+fn result_of(ty: &CoreType) -> Option<CellKind>
+    ensures { result ≡ spec.result_of ty.now }
+{
+    if ty.is_void() {
+        return None;
+    }
+    match ty.kind() {
+        Some(kind) => Some(CellKind::Of(kind)),
+        None => Some(CellKind::Ptr),
+    }
 }
 
 fn function_with<'a, 'b>(
@@ -59,7 +72,7 @@ fn function_with<'a, 'b>(
     Ok(Function {
         params,
         variables,
-        is_void: signature.result.is_void(),
+        result: result_of(&signature.result),
         contract,
         body,
         end: text.body.end,

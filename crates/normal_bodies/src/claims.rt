@@ -69,6 +69,7 @@ pub(crate) fn copy_loop(alloc: Global, claims: &Loop) -> Result<Loop, NoMemory>
     Ok(Loop {
         invariants,
         assigns,
+        line: claims.line,
         variant,
         declared: claims.declared,
     })

@@ -20,7 +20,7 @@ fn normal_function<'a, 'b>(
     Ok(CoreFunction {
         params: function.params,
         variables: &function.variables,
-        is_void: function.is_void,
+        result: function.result,
         contract: &function.contract,
         body,
         end: function.end,

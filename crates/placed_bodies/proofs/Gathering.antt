@@ -1,5 +1,5 @@
 -- Clauses one after another.
-use Rattle.std.proofs.Common.{◌≡◌, ℕ, ◌+◌, ◌<◌, ◌≤◌, Bool, true, false, if◌then◌else◌, List, [], ◌∷◌, ◌++◌, map, length, drop, take, get_or, Option, Some, None, sym, ap, ◌∙◌, append_assoc, append-nil}
+use Rattle.std.proofs.Common.{◌≡◌, ℕ, ◌+◌, ◌<◌, ◌≤◌, Bool, true, false, if◌then◌else◌, List, [], ◌∷◌, ◌++◌, map, length, drop, take, get_or, Option, Some, None, refl, sym, ap, ◌∙◌, append_assoc, append-nil}
 use Rattle.std.specs.Option.{option_map}
 use Rattle.std.specs.List.{filter_map, cons_option}
 use Rattle.std.proofs.lemmas.List.{at_drop_more, at_drop_all, map_push, take_more, take_all}
@@ -10,7 +10,7 @@ use Rattle.acsl_clauses.specs.Typed.{TypedClause, view_clause}
 use Rattle.c_runs.specs.Program.{Behavior}
 use Rattle.program_trees.specs.declared.contracts.Behavior.{Behavior as CodeBehavior}
 use Rattle.program_trees.specs.View.{view_behavior}
-use Rattle.c_programs.specs.Clauses.{first, or_else, begins_one, own, behavior_of, behaviors_of}
+use Rattle.c_programs.specs.Clauses.{first, or_else, assigns_line, assigns_line_in, begins_one, own, behavior_of, behaviors_of}
 
 -- ---- what passes
 
@@ -70,6 +70,25 @@ module _ {C X D Y : Type 0} (f : X → Option Y) (see : C → X) (view : D → Y
   first_done xs i whole all so_far = sym (at_drop_all (λ zs. first f (map see zs)) xs i all) ∙ so_far
 
 pub ruleset first_laws = (first_turn, first_found, first_done)
+
+-- the line of the first one on what is assigned
+
+same_line : (o : Option ℕ) → option_map (λ l. l) o ≡ o
+same_line None = refl
+same_line (Some l) = refl
+
+pub line_turn : (xs : List CodeClause) (i : ℕ) (x : CodeClause) (o : Option ℕ) (whole : Option ℕ) → i < length xs → x ≡ get_or xs i x → o ≡ assigns_line (view_clause x) → o ≡ None
+    → assigns_line_in (map view_clause (drop i xs)) ≡ whole → assigns_line_in (map view_clause (drop (i + 1) xs)) ≡ whole
+line_turn xs i x o whole in_list is made none so_far = first_turn assigns_line view_clause (λ l. l) xs i x o whole in_list is (same_line o ∙ made) none so_far
+
+pub line_found : (xs : List CodeClause) (i : ℕ) (x : CodeClause) (line : ℕ) (whole : Option ℕ) → i < length xs → x ≡ get_or xs i x → Some line ≡ assigns_line (view_clause x)
+    → assigns_line_in (map view_clause (drop i xs)) ≡ whole → Some line ≡ whole
+line_found xs i x line whole in_list is made so_far = first_found assigns_line view_clause (λ l. l) xs i x line whole in_list is made so_far
+
+pub line_done : (xs : List CodeClause) (i : ℕ) (whole : Option ℕ) → length xs ≤ i → assigns_line_in (map view_clause (drop i xs)) ≡ whole → None ≡ whole
+line_done xs i whole all so_far = first_done assigns_line view_clause (λ (l : ℕ). l) xs i whole all so_far
+
+pub ruleset line_laws = (line_turn, line_found, line_done)
 
 -- ---- parts of contracts
 

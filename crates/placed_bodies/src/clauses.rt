@@ -13,7 +13,7 @@ use acsl_trees::Tree;
 use core_trees::{Claim, Loop, Measure};
 use program_trees::{Behavior, Contract, Together};
 use std::alloc::Global;
-use wp_base::{List, NoMemory};
+use wp_base::{Line, List, NoMemory};
 
 // ---- single clauses
 
@@ -95,6 +95,18 @@ fn regions_by(alloc: Global, said: &Said) -> Result<Option<List<Tree>>, NoMemory
         Said::Decreases(_) => Ok(None),
         Said::Begins(_) => Ok(None),
         Said::Together(_, _) => Ok(None),
+    }
+}
+
+fn assigns_line(clause: &TypedClause) -> Option<Line>
+    ensures { result ≡ spec.assigns_line (view_clause clause.now) }
+{
+    match &clause.said {
+        Said::Assigns(_) => Some(clause.line),
+        Said::Claims(_, _) => None,
+        Said::Decreases(_) => None,
+        Said::Begins(_) => None,
+        Said::Together(_, _) => None,
     }
 }
 
@@ -194,6 +206,18 @@ fn regions_in(alloc: Global, clauses: &[TypedClause]) -> Result<Option<List<Tree
     Ok(None)
 }
 
+#[tactic(auto, using(crate::proofs::Gathering::line_laws))]
+fn assigns_line_in(clauses: &[TypedClause]) -> Option<Line>
+    ensures { result ≡ spec.assigns_line_in (map view_clause clauses.now) }
+{
+    for i in 0..clauses.len() {
+        if let Some(line) = assigns_line(&clauses[i]) {
+            return Some(line);
+        }
+    }
+    None
+}
+
 #[tactic(auto, using(crate::proofs::Gathering::first_laws))]
 fn measure_in(alloc: Global, clauses: &[TypedClause]) -> Result<Option<Measure>, NoMemory>
     ensures { IfOk result (λ measure. option_map view_measure measure ≡ spec.measure_in (map view_clause clauses.now)) }
@@ -275,6 +299,7 @@ pub fn loop_with(alloc: Global, declared: u32, clauses: &[TypedClause]) -> Resul
     Ok(Loop {
         invariants,
         assigns,
+        line: assigns_line_in(clauses).unwrap_or(0),
         variant,
         declared,
     })

@@ -80,7 +80,7 @@ abbrev pub view_function : Function → p.Function p.Stmts
 view_function x = record {
   params = x.params;
   variables = view_variables x.variables;
-  is_void = x.is_void;
+  result = x.result;
   contract = view_contract x.contract;
   body = view_stmts x.body;
   end = x.end;
@@ -102,7 +102,7 @@ abbrev pub view_core_function : CoreFunction → p.Function c.Cores
 view_core_function x = record {
   params = x.params;
   variables = view_variables x.variables.now;
-  is_void = x.is_void;
+  result = x.result;
   contract = view_contract x.contract.now;
   body = view_cores x.body;
   end = x.end;

@@ -11,7 +11,8 @@ use wp_base::{CellKind, Line, List};
 pub struct Function<'a> {
     pub params: u32,
     pub variables: List<FunctionVariable>,
-    pub is_void: bool,
+    /// The kind of what it gives; a function without result has none.
+    pub result: Option<CellKind>,
     pub contract: Contract,
     pub body: List<Stmt<'a>>,
     /// The line of its closing brace.
@@ -44,7 +45,8 @@ pub struct Program<'a> {
 pub struct CoreFunction<'a> {
     pub params: u32,
     pub variables: &'a List<FunctionVariable>,
-    pub is_void: bool,
+    /// The kind of what it gives; a function without result has none.
+    pub result: Option<CellKind>,
     pub contract: &'a Contract,
     pub body: List<Core>,
     pub end: Line,

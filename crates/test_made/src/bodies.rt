@@ -40,6 +40,7 @@ fn no_claims(alloc: Global) -> Loop {
     Loop {
         invariants: List::new(alloc),
         assigns: None,
+        line: 0,
         variant: None,
         declared: 0,
     }

@@ -9,7 +9,7 @@ use normal_programs::normalise;
 use program_trees::{Behavior, Contract, Facts, Function, Program, Stmt};
 use std::alloc::Global;
 use test_lines::Page;
-use wp_base::{Layout, List, NoMemory};
+use wp_base::{CellKind, Kind, Layout, List, NoMemory};
 
 fn variable(alloc: Global, has_value: bool) -> FunctionVariable {
     FunctionVariable {
@@ -61,7 +61,7 @@ fn program_of<'a>(alloc: Global, body: List<Stmt<'a>>) -> Result<Program<'a>, No
     functions.push(Some(Function {
         params: 2,
         variables,
-        is_void: false,
+        result: Some(CellKind::Of(Kind::Int)),
         contract: no_contract(alloc),
         body,
         end: 1,

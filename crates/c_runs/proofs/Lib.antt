@@ -1,3 +1,3 @@
-mod Numbers
-mod Constants
+pub mod Numbers
+pub mod Constants
 mod Order

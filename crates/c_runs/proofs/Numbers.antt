@@ -18,7 +18,7 @@ use Rattle.qed_terms.specs.Operators.{is_zero, is_equal}
 
 -- ---- tests
 
-zero_when : (z : ℤ) → is_zero z ≡ true → z ≡ pos 0
+pub zero_when : (z : ℤ) → is_zero z ≡ true → z ≡ pos 0
 zero_when (pos zero) h = refl
 zero_when (pos (suc n)) h = absurd cc
 zero_when (negsuc n) h = absurd cc
@@ -75,7 +75,7 @@ natural_held m k n = let e = (narrow m k).no_more in ap (λ b. b && int_le (pos 
 half_less : (n d : ℕ) → suc n / suc (suc d) ≤ n
 half_less n d = omega arith
 
-one_whole : (n : ℕ) → n / 1 ≡ n
+pub one_whole : (n : ℕ) → n / 1 ≡ n
 one_whole n = omega arith
 
 -- between the negative of a size and the size

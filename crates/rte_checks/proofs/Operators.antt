@@ -138,7 +138,7 @@ where_asked true ok u l test x h = last_settle true ok u l test x (no_case _) h
 where_asked false ok u l test x h = refl
 
 -- an operand that is a number as spelled has this value
-constant_second : (p : Facts) (xs : List Variable) (tm : Temps) (w : World) (es : t.Values) (z : ℤ)
+pub constant_second : (p : Facts) (xs : List Variable) (tm : Temps) (w : World) (es : t.Values) (z : ℤ)
     → second_constant es ≡ Some z → number_of (second (totals p xs tm w es)) ≡ z
 constant_second p xs tm w t.stop z e = absurd cc
 constant_second p xs tm w (t.more a t.stop) z e = absurd cc

@@ -1,0 +1,16 @@
+mod TurnedBits
+mod Bitwise
+mod Listing
+mod Cells
+mod Holding
+mod Staying
+mod Integers
+mod Saying
+mod Operands
+mod Pointers
+mod Objects
+mod Results
+mod Operations
+mod Meaning
+mod Fitting
+mod FittingWords

@@ -1,0 +1,6 @@
+pub mod Readings
+pub mod Terms
+pub mod Words
+pub mod Typed
+pub mod Worlds
+pub mod Laws

@@ -33,17 +33,17 @@ use Rattle.value_terms.specs.Words.{Item, asked, known, formula_of, asked_if, wi
 use Rattle.value_terms.specs.Laws.{AllIsWellFormed}
 use Rattle.value_terms.proofs.Fitting.{Int, Form, one_fits, two_fit, three_fit, number_fits, block_fits, offset_fits, condition_fits, exact_fits, pair_fits, AllFit, address_fits, cell_fits, moved_both, op_fits, one_fit, kids_fit}
 
-abbrev item_fits : Item → Bool
+abbrev pub item_fits : Item → Bool
 item_fits i = fits formula (formula_of i)
 
-abbrev Fit : List Item → Type 0
+abbrev pub Fit : List Item → Type 0
 Fit is = list_all item_fits is ≡ true
 
-asked_fits : (b : Bool) (u : Undefined) (l : ℕ) (f : Tree) → Form f → Fit (asked_if b u l f)
+pub asked_fits : (b : Bool) (u : Undefined) (l : ℕ) (f : Tree) → Form f → Fit (asked_if b u l f)
 asked_fits true u l f h = one_fits h
 asked_fits false u l f h = refl
 
-append_fits : (us vs : List Item) → Fit us → Fit vs → Fit (us ++ vs)
+pub append_fits : (us vs : List Item) → Fit us → Fit vs → Fit (us ++ vs)
 append_fits [] vs h g = g
 append_fits (u ∷ us) vs h g = let parts = and_parts (item_fits u) _ h in pair_fits parts.0 (append_fits us vs parts.1 g)
 
@@ -110,7 +110,7 @@ module _ (p : Facts) (xs : List run.Variable) (r : Reading) (well : IsWellFormed
   access_fits : (k : CellKind) (a : Term) → term_fits a ≡ true → Form (access_term p r k a)
   access_fits k a h = three_fit well.table (block_fits a h) (offset_fits a h)
 
-  indices_fit : (ts : List Term) (n : ℕ) (ss : List Step) → AllFit ts → Fit (index_items p r ts n ss)
+  pub indices_fit : (ts : List Term) (n : ℕ) (ss : List Step) → AllFit ts → Fit (index_items p r ts n ss)
   indices_fit ts n [] h = refl
   indices_fit ts n (step.Element operand size count line ∷ ss) h =
       pair_fits (below_fits (number_term (term_at ts operand)) count (number_fits (term_at ts operand) (h operand))) (indices_fit ts (suc n) ss h)
@@ -176,7 +176,7 @@ module _ (p : Facts) (xs : List run.Variable) (r : Reading) (well : IsWellFormed
     word_fits : (e : t.Value) → Fit (word_of p xs r e)
     word_fits (t.typed what type l) = node_word_fits type l what
 
-    words_fit : (es : t.Values) → Fit (words p xs r es)
+    pub words_fit : (es : t.Values) → Fit (words p xs r es)
     words_fit t.stop = refl
     words_fit (t.more e es) =
         append_fits (map (with_check (in_operand 0)) (word_of p xs r e)) (map (with_check later) (words p xs r es))

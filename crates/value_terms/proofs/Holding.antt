@@ -155,6 +155,12 @@ global_is gs (root.Variable (variable.Global y)) x e = by_test (is_plain_in (sli
 global_is gs (root.Variable (variable.Local y)) x e = absurd cc
 global_is gs (root.Pointed n) x e = absurd cc
 
+-- what is asked in some cases is so in these
+pub asked_true : (b c : Bool) (u : Undefined) (line : ℕ) (met : Check → Bool) → all met (one_if b u line) ≡ true → met (here u line) ≡ (if b then c else true)
+    → b ≡ true → c ≡ true
+asked_true true c u line met h e q = sym e ∙ (and_parts (met (here u line)) true h).0
+asked_true false c u line met h e q = absurd cc
+
 -- where its check is met, it has a value
 pub read_has_value : (sure : Bool) (b : Bool) (l : ℕ) (met : Check → Bool) → met (here init l) ≡ (sure || b) → all met (one_if (not sure) init l) ≡ true
     → (sure || b) ≡ true

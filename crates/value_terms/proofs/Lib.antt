@@ -14,3 +14,5 @@ mod Operations
 mod Meaning
 mod Fitting
 mod FittingWords
+mod Places
+mod Examples

@@ -75,7 +75,7 @@ module _ {mw : m.World} {env : m.Values} {r : Reading} {p : Facts} {xs : List Va
     one_means : (e : t.Value) → IsTyped p xs s e → all (is_met p xs tm w e) (checks_of xs e) ≡ true → Means mw env (term_of p xs r e) (total p xs tm w e)
     one_means (t.typed what type l) h met = node_means what type l h met
 
-    all_mean : (es : t.Values) → AreTyped p xs s es → all (met_in p xs tm w es) (all_checks xs es) ≡ true
+    pub all_mean : (es : t.Values) → AreTyped p xs s es → all (met_in p xs tm w es) (all_checks xs es) ≡ true
         → (i : ℕ) → Means mw env (term_at (ts_of es) i) (value_at (vs_of es) i)
     all_mean t.stop h met i = refl
     all_mean (t.more e es) h met zero = one_means e h.0 (first_met e es met)
@@ -103,7 +103,7 @@ module _ {mw : m.World} {env : m.Values} {r : Reading} {p : Facts} {xs : List Va
     one_says : (e : t.Value) → IsTyped p xs s e → Says So (is_met p xs tm w e) (word_of p xs r e)
     one_says (t.typed what type l) h = node_says what type l h
 
-    all_say : (es : t.Values) → AreTyped p xs s es → Says So (met_in p xs tm w es) (words p xs r es)
+    pub all_say : (es : t.Values) → AreTyped p xs s es → Says So (met_in p xs tm w es) (words p xs r es)
     all_say t.stop h = tt
     all_say (t.more e es) h =
         let met : Check → Bool = met_in p xs tm w (t.more e es) in

@@ -60,9 +60,9 @@ module _ {mw : m.World} {env : m.Values} {r : Reading} {p : Facts} {xs : List Va
       subst (λ v. Means mw env (r.globals x) v) (sym (global_content stood.kinds x type path vs o e h))
       (stood.stands.globals x h.0.variable h.0.found ((global_is p.globals path.root x o).plain h.0.variable h.0.found))
   cell_means None type path ts vs met o e h means test all =
-      loaded_means stood (address_term p r path ts) (address p w path vs)
-      (object_means stood ts vs means path.root path.steps (kind_given type) h) (cell_of type)
-      (read_there stood.kinds type path vs met e h test all)
+      loaded_means stood h.0 (address_term p r path ts) (address p w path vs)
+      (object_means stood ts vs means h.0 path.root path.steps (kind_given type) h.1) (cell_of type)
+      (read_there stood.kinds type path vs met e h.1 test all)
 
   pub read_means : (o : Option ℕ) (type : CoreType) (path : Path) (ts : List Term) (vs : List Value) (met : Check → Bool) → plain_root xs path.root ≡ o
       → ReadIsTyped p xs s o type path → Operands ts vs → ((u : Undefined) (l n : ℕ) → met (at_step u l n) ≡ read_test_by o p xs w type path u n vs)
@@ -83,11 +83,17 @@ module _ {mw : m.World} {env : m.Values} {r : Reading} {p : Facts} {xs : List Va
   pointed_object (root.Variable x) ss k ts vs means e = absurd cc
   pointed_object (root.Pointed n) ss k ts vs means e = along_means stood ts vs means ss (term_at ts n) (value_at vs n) (means n)
 
-  access_says : (type : CoreType) (path : Path) (ts : List Term) (vs : List Value) (met : Check → Bool) → Operands ts vs
+  -- what is pointed at is in a block
+  pointed_on : (o : Option ℕ) (root : Root) (ss : List Step) (k : CellKind) → plain_global p.globals root ≡ o → CellIsTyped p xs s o root ss k
+      → is_pointed root ≡ true → s.has_blocks ≡ true
+  pointed_on (Some x) root ss k o h e = let is = ap is_pointed (global_is p.globals root x o).root in absurd cc
+  pointed_on None root ss k o h e = h.0
+
+  access_says : (type : CoreType) (path : Path) (ts : List Term) (vs : List Value) (met : Check → Bool) → Operands ts vs → s.has_blocks ≡ true
       → ((u : Undefined) (l n : ℕ) → met (at_step u l n) ≡ read_test_by None p xs w type path u n vs) → is_pointed path.root ≡ true
       → So (access_term p r (cell_of type) (address_term p r path ts)) ≡ met (here access path.line)
-  access_says type path ts vs met means test e =
-      access_means stood (cell_of type) (address_term p r path ts) (address p w path vs)
+  access_says type path ts vs met means on test e =
+      access_means stood on (cell_of type) (address_term p r path ts) (address p w path vs)
       (pointed_object path.root path.steps (cell_of type) ts vs means e)
       ∙ ap (λ b. if b then is_cell (cell_of type) w.memory.blocks (block_of (address p w path vs)) (offset_of (address p w path vs)) else true) (sym e)
       ∙ sym (test access path.line 0)
@@ -99,9 +105,9 @@ module _ {mw : m.World} {env : m.Values} {r : Reading} {p : Facts} {xs : List Va
       → Says So met (facts_by p r o type path ts)
   behind_access (Some x) type path ts vs met o e h means test all = tt
   behind_access None type path ts vs met o e h means test all =
-      facts_say stood (address_term p r path ts) (address p w path vs)
-      (object_means stood ts vs means path.root path.steps (kind_given type) h) (cell_of type) met
-      (read_there stood.kinds type path vs met e h test all)
+      facts_say stood h.0 (address_term p r path ts) (address p w path vs)
+      (object_means stood ts vs means h.0 path.root path.steps (kind_given type) h.1) (cell_of type) met
+      (read_there stood.kinds type path vs met e h.1 test all)
 
   pub read_says : (o : Option ℕ) (type : CoreType) (path : Path) (ts : List Term) (vs : List Value) (met : Check → Bool) → plain_root xs path.root ≡ o
       → ReadIsTyped p xs s o type path → Operands ts vs → ((u : Undefined) (l n : ℕ) → met (at_step u l n) ≡ read_test_by o p xs w type path u n vs)
@@ -115,7 +121,8 @@ module _ {mw : m.World} {env : m.Values} {r : Reading} {p : Facts} {xs : List Va
       indices_say stood ts vs means 0 path.steps met (λ i k l q. test index l k ∙ ap (λ n. step_test vs (slice_get path.steps n)) (q ∙ omega arith)) in
       says_append So met (index_items p r ts 0 path.steps) _ indices (λ behind.
       says_append So met (asked_if (is_pointed path.root) access path.line (access_term p r (cell_of type) (address_term p r path ts))) _
-      (says_asked So met (is_pointed path.root) access path.line _ (access_says type path ts vs met means test))
+      (says_asked So met (is_pointed path.root) access path.line _ (λ b. access_says type path ts vs met means
+      (pointed_on (plain_global p.globals path.root) path.root path.steps (kind_given type) refl h.1 b) test b))
       (λ accessed. behind_access (plain_global p.globals path.root) type path ts vs met refl h.0 h.1 means test
       (all_join met (index_checks 0 path.steps) (one_if (is_pointed path.root) access path.line)
       (ap (all met) (sym (index_has p xs r ts 0 path.steps)) ∙ behind)

@@ -90,25 +90,26 @@ module _ {mw : m.World} {env : m.Values} {r : Reading} {p : Facts} {xs : List Va
         ∙ ap number (sym (converted_means (sized stood) (kind_at type) (first_kind es) (number_term (term_at (ts_of es) 0))
         (subst (λ a. holds p.model (first_kind es) a ≡ true) (number_at 0) (operand_held p _ es (value_at (vs_of es) 0) (have 0)))))
 
-    address_value : (path : Path) → StartIsTyped p xs s path.root es → Means mw env (address_term p r path (ts_of es)) (address p w path (vs_of es))
-    address_value path h = start_means stood (ts_of es) (vs_of es) means path.root path.steps es h
+    address_value : s.has_blocks ≡ true → (path : Path) → StartIsTyped p xs s path.root es
+        → Means mw env (address_term p r path (ts_of es)) (address p w path (vs_of es))
+    address_value on path h = start_means stood (ts_of es) (vs_of es) means on path.root path.steps es h
 
     moved_value : (minus index_first : Bool) (size : ℕ)
         → Means mw env (moved_terms index_first minus size (ts_of es)) (moved_in index_first minus size (vs_of es))
     moved_value minus index_first size = moved_both_mean stood index_first minus size (ts_of es) (vs_of es) means
 
-    compared_well : So (comparing_term p r (term_at (ts_of es) 0) (term_at (ts_of es) 1))
+    compared_well : s.has_blocks ≡ true → So (comparing_term p r (term_at (ts_of es) 0) (term_at (ts_of es) 1))
         ≡ may_compare w.memory.blocks (value_at (vs_of es) 0) (value_at (vs_of es) 1)
-    compared_well =
-        comparing_means stood (term_at (ts_of es) 0) (term_at (ts_of es) 1) (value_at (vs_of es) 0) (value_at (vs_of es) 1) (means 0) (means 1)
+    compared_well on =
+        comparing_means stood on (term_at (ts_of es) 0) (term_at (ts_of es) 1) (value_at (vs_of es) 0) (value_at (vs_of es) 1) (means 0) (means 1)
 
     pub op_means : (o : Op) → OpIsTyped p xs s type o es
         → ((u : Undefined) (line n : ℕ) → met (at_step u line n) ≡ op_test p xs w type o u n (vs_of es)) → all met (op_checks xs type l o es) ≡ true
         → Means mw env (op_term p xs r type o es (ts_of es)) (total_applied p xs w type o (vs_of es))
     unfolding op_term total_applied op_test applied
     op_means (op.Read path) h test all = read_means stood (plain_root xs path.root) type path (ts_of es) (vs_of es) met refl h means test all
-    op_means (op.Address path accessed) h test all = address_value path h.1
-    op_means (op.Decay path accessed) h test all = address_value path h.1
+    op_means (op.Address path accessed) h test all = address_value h.1 path h.2
+    op_means (op.Decay path accessed) h test all = address_value h.1 path h.2
     op_means op.Negate h test all =
         ap (λ a. number (within p.model (kind_at type) (neg_ℤ a))) (number_at 0)
         ∙ ap (λ z. number (within p.model (kind_at type) z)) (sym (opposite_means (sized stood) (number_term (term_at (ts_of es) 0))))
@@ -140,11 +141,11 @@ module _ {mw : m.World} {env : m.Values} {r : Reading} {p : Facts} {xs : List Va
     unfolding op_items op_term op_test
     op_says (op.Read path) h test = read_says stood (plain_root xs path.root) type path (ts_of es) (vs_of es) met refl h means test
     op_says (op.Address path accessed) h test =
-        says_asked So met _ pointing path.line _ (λ asks. pointing_means stood (address_term p r path (ts_of es)) (address p w path (vs_of es))
-        (address_value path h.1) ∙ sym (test pointing path.line 0))
+        says_asked So met _ pointing path.line _ (λ asks. pointing_means stood h.1 (address_term p r path (ts_of es)) (address p w path (vs_of es))
+        (address_value h.1 path h.2) ∙ sym (test pointing path.line 0))
     op_says (op.Decay path accessed) h test =
-        says_asked So met _ pointing path.line _ (λ asks. pointing_means stood (address_term p r path (ts_of es)) (address p w path (vs_of es))
-        (address_value path h.1) ∙ sym (test pointing path.line 0))
+        says_asked So met _ pointing path.line _ (λ asks. pointing_means stood h.1 (address_term p r path (ts_of es)) (address p w path (vs_of es))
+        (address_value h.1 path h.2) ∙ sym (test pointing path.line 0))
     op_says op.Negate h test =
         fit_says stood met (kind_at type) l (of_one term.Neg (number_term (term_at (ts_of es) 0))) _
         (opposite_means (sized stood) (number_term (term_at (ts_of es) 0)) ∙ ap neg_ℤ (sym (number_at 0))) (test overflow l 0)
@@ -161,11 +162,11 @@ module _ {mw : m.World} {env : m.Values} {r : Reading} {p : Facts} {xs : List Va
         (subst (λ a. holds p.model (kind_at type) a ≡ true) (number_at 0) a.held) (subst (λ b. may_be_second p.model (kind_at type) o b ≡ true) (number_at 1) b)
         (λ f. test f l 0 ∙ (λ i. arithmetic_test p.model (kind_at type) o f (number_at 0 i) (number_at 1 i)))
     op_says (op.Compare c) h test = tt
-    op_says (op.ComparePointers c) h test = says_asked So met (is_order c) comparing l _ (λ asks. compared_well ∙ sym (test comparing l 0))
+    op_says (op.ComparePointers c) h test = says_asked So met (is_order c) comparing l _ (λ asks. compared_well h.1 ∙ sym (test comparing l 0))
     op_says (op.Offset minus index_first size accessed) h test =
-        says_asked So met _ pointing l _ (λ asks. pointing_means stood (moved_terms index_first minus size (ts_of es))
+        says_asked So met _ pointing l _ (λ asks. pointing_means stood h.1 (moved_terms index_first minus size (ts_of es))
         (moved_in index_first minus size (vs_of es)) (moved_value minus index_first size) ∙ sym (test pointing l 0))
-    op_says (op.Difference size) h test = (compared_well ∙ sym (test comparing l 0), λ behind. tt)
+    op_says (op.Difference size) h test = (compared_well h.1 ∙ sym (test comparing l 0), λ behind. tt)
     op_says op.Convert h test = tt
     op_says op.Requalify h test = tt
     op_says op.Cast h test = tt

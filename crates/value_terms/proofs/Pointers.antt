@@ -7,7 +7,7 @@ use Rattle.std.proofs.lemmas.Bool.Decides.{Decides-eqb}
 use Rattle.wp_base.specs.declared.kinds.CellKind.{CellKind}
 use Rattle.wp_base.specs.declared.kinds.CellKind.TheVariants as cell
 use Rattle.wp_base.specs.declared.kinds.Kind.{Kind}
-use Rattle.wp_base.specs.Blocks.{count, len, is_live, is_cell}
+use Rattle.wp_base.specs.Blocks.{count, len, is_live, is_cell, is_writable}
 use Rattle.c_kinds.specs.Models.{low, holds}
 use Rattle.typed_prog.specs.declared.operators.Comparison.{Comparison}
 use Rattle.typed_prog.specs.declared.operators.Comparison.TheVariants as cmp
@@ -38,6 +38,7 @@ use Rattle.value_terms.specs.Words.{range_facts, pointing_term, comparing_term, 
 use Rattle.value_terms.specs.Typed.{Scope, HasBlock, ObjectIsTyped, StartIsTyped}
 use Rattle.value_terms.specs.Worlds.{IsOf, Means}
 use Rattle.value_terms.specs.Laws.{Stood, Says}
+use Rattle.value_terms.specs.Places.{write_term}
 use Rattle.value_terms.proofs.Integers.{Sized, times_one, sum_is, and_true, comparison_means, below_means}
 use Rattle.value_terms.proofs.Operands.{number_means, block_means, offset_means}
 use Rattle.value_terms.proofs.Cells.{of_kind_same, pointer_is, IndicesMet, equal_when}
@@ -158,9 +159,9 @@ module _ {mw : m.World} {env : m.Values} {r : Reading} {p : Facts} {xs : List Va
 
   -- ---- ways
 
-  home_means : (x : code.Variable) → HasBlock p xs s x → home_of p w.locals x ≡ V (home_term p r x)
-  home_means (variable.Global x) h = refl
-  home_means (variable.Local x) h = sym (stood.stands.homes x h.variable h.is.0 h.is.1 h.block)
+  home_means : s.has_blocks ≡ true → (x : code.Variable) → HasBlock p xs s x → home_of p w.locals x ≡ V (home_term p r x)
+  home_means on (variable.Global x) h = refl
+  home_means on (variable.Local x) h = sym (stood.stands.homes on x h.variable h.is.0 h.is.1 h.block)
 
   module _ (ts : List Term) (vs : List Value) (means : (i : ℕ) → M (term_at ts i) (value_at vs i)) where
     pub along_means : (ss : List Step) (a : Term) (v : Value) → M a v → M (along_term p r ts ss a) (along vs ss v)
@@ -173,15 +174,15 @@ module _ {mw : m.World} {env : m.Values} {r : Reading} {p : Facts} {xs : List Va
         along_means ss (moved_term false size a (term_at ts operand)) (moved_by false size v (value_at vs operand))
         (moved_means false size a (term_at ts operand) v (value_at vs operand) h (means operand))
 
-    pub object_means : (o : Root) (ss : List Step) (k : CellKind) → ObjectIsTyped p xs s o ss k
+    pub object_means : s.has_blocks ≡ true → (o : Root) (ss : List Step) (k : CellKind) → ObjectIsTyped p xs s o ss k
         → M (along_term p r ts ss (start_term p r o ts)) (along vs ss (start p w o vs))
-    object_means (root.Variable x) ss k h = along_means ss _ _ (pointers (home_means x h.0) refl)
-    object_means (root.Pointed n) ss k h = along_means ss (term_at ts n) (value_at vs n) (means n)
+    object_means on (root.Variable x) ss k h = along_means ss _ _ (pointers (home_means on x h.0) refl)
+    object_means on (root.Pointed n) ss k h = along_means ss (term_at ts n) (value_at vs n) (means n)
 
-    pub start_means : (o : Root) (ss : List Step) (es : t.Values) → StartIsTyped p xs s o es
+    pub start_means : s.has_blocks ≡ true → (o : Root) (ss : List Step) (es : t.Values) → StartIsTyped p xs s o es
         → M (along_term p r ts ss (start_term p r o ts)) (along vs ss (start p w o vs))
-    start_means (root.Variable x) ss es h = along_means ss _ _ (pointers (home_means x h) refl)
-    start_means (root.Pointed n) ss es h = along_means ss (term_at ts n) (value_at vs n) (means n)
+    start_means on (root.Variable x) ss es h = along_means ss _ _ (pointers (home_means on x h) refl)
+    start_means on (root.Pointed n) ss es h = along_means ss (term_at ts n) (value_at vs n) (means n)
 
     -- the indices of a way
     pub indices_say : (n : ℕ) (ss : List Step) (met : Check → Bool) → IndicesMet vs n ss met → Says So met (index_items p r ts n ss)
@@ -197,19 +198,24 @@ module _ {mw : m.World} {env : m.Values} {r : Reading} {p : Facts} {xs : List Va
 
   -- ---- formulas on pointers
 
-  pub access_means : (k : CellKind) (a : Term) (v : Value) → M a v → So (access_term p r k a) ≡ is_cell k w.memory.blocks (block_of v) (offset_of v)
-  access_means k a v h = λ i. is_cell k (stood.stands.table i) (sym (block_means mw env a v h) i) (sym (offset_means mw env a v h) i)
+  pub access_means : s.has_blocks ≡ true → (k : CellKind) (a : Term) (v : Value) → M a v
+      → So (access_term p r k a) ≡ is_cell k w.memory.blocks (block_of v) (offset_of v)
+  access_means on k a v h = λ i. is_cell k (stood.stands.table on i) (sym (block_means mw env a v h) i) (sym (offset_means mw env a v h) i)
 
-  pub pointing_means : (a : Term) (v : Value) → M a v → So (pointing_term p r a) ≡ may_point w.memory.blocks v
-  pointing_means a v h =
+  pub write_means : s.has_blocks ≡ true → (k : CellKind) (a : Term) (v : Value) → M a v
+      → So (write_term p r k a) ≡ is_writable k w.memory.blocks (block_of v) (offset_of v)
+  write_means on k a v h = λ i. is_writable k (stood.stands.table on i) (sym (block_means mw env a v h) i) (sym (offset_means mw env a v h) i)
+
+  pub pointing_means : s.has_blocks ≡ true → (a : Term) (v : Value) → M a v → So (pointing_term p r a) ≡ may_point w.memory.blocks v
+  pointing_means on a v h =
       (λ i. let b = sym (block_means mw env a v h) i in let o = sym (offset_means mw env a v h) i in
-      is_live (stood.stands.table i) b && (int_le (pos 0) o && (int_le o (len (stood.stands.table i) b) && true)))
+      is_live (stood.stands.table on i) b && (int_le (pos 0) o && (int_le o (len (stood.stands.table on i) b) && true)))
       ∙ three_tests (is_live w.memory.blocks (block_of v)) (int_le (pos 0) (offset_of v)) (int_le (offset_of v) (len w.memory.blocks (block_of v)))
 
-  pub comparing_means : (a b : Term) (v u : Value) → M a v → M b u → So (comparing_term p r a b) ≡ may_compare w.memory.blocks v u
-  comparing_means a b v u h g =
+  pub comparing_means : s.has_blocks ≡ true → (a b : Term) (v u : Value) → M a v → M b u → So (comparing_term p r a b) ≡ may_compare w.memory.blocks v u
+  comparing_means on a b v u h g =
       (λ i. let x = sym (block_means mw env a v h) i in let y = sym (block_means mw env b u g) i in
-      let o = sym (offset_means mw env a v h) i in let q = sym (offset_means mw env b u g) i in let t = stood.stands.table i in
+      let o = sym (offset_means mw env a v h) i in let q = sym (offset_means mw env b u g) i in let t = stood.stands.table on i in
       is_equal x y && (is_live t x && (int_le (pos 0) o && (int_le o (len t x) && (int_le (pos 0) q && (int_le q (len t x) && true))))))
       ∙ flat_tests (is_equal (block_of v) (block_of u)) (is_live w.memory.blocks (block_of v)) (int_le (pos 0) (offset_of v))
       (int_le (offset_of v) (len w.memory.blocks (block_of v))) (is_live w.memory.blocks (block_of u)) (int_le (pos 0) (offset_of u))
@@ -222,7 +228,7 @@ module _ {mw : m.World} {env : m.Values} {r : Reading} {p : Facts} {xs : List Va
   pub range_says : (met : Check → Bool) (k : Kind) (t : Tree) → holds p.model k (V t) ≡ true → Says So met (range_facts p.model k t)
   range_says met k t h = let parts = and_parts (int_le (low p.model k) (V t)) _ h in (parts.0, (parts.1, tt))
 
-  module _ (a : Term) (v : Value) (h : M a v) where
+  module _ (on : s.has_blocks ≡ true) (a : Term) (v : Value) (h : M a v) where
     abbrev here : Value
     here = w.memory.cells (block_of v) (offset_of v)
 
@@ -237,13 +243,13 @@ module _ {mw : m.World} {env : m.Values} {r : Reading} {p : Facts} {xs : List Va
     load_is memory = λ i. load (m.memory (m.meaning mw env memory)) (sym (block_means mw env a v h) i) (sym (offset_means mw env a v h) i)
 
     number_is_loaded : (k : Kind) → There (cell.Of k) → number_of here ≡ V (load_term p r (r.numbers k) a)
-    number_is_loaded k there = sym (load_is (r.numbers k) ∙ stood.stands.numbers k (block_of v) (offset_of v) there)
+    number_is_loaded k there = sym (load_is (r.numbers k) ∙ stood.stands.numbers on k (block_of v) (offset_of v) there)
 
     block_is_loaded : There cell.Ptr → block_of here ≡ V (load_term p r r.blocks a)
-    block_is_loaded there = sym (load_is r.blocks ∙ stood.stands.blocks (block_of v) (offset_of v) there)
+    block_is_loaded there = sym (load_is r.blocks ∙ stood.stands.blocks on (block_of v) (offset_of v) there)
 
     offset_is_loaded : There cell.Ptr → offset_of here ≡ V (load_term p r r.offsets a)
-    offset_is_loaded there = sym (load_is r.offsets ∙ stood.stands.offsets (block_of v) (offset_of v) there)
+    offset_is_loaded there = sym (load_is r.offsets ∙ stood.stands.offsets on (block_of v) (offset_of v) there)
 
     pub loaded_means : (k : CellKind) → There k → M (loaded p r k a) (content w.memory k v)
     loaded_means (cell.Of k) there =
@@ -261,5 +267,5 @@ module _ {mw : m.World} {env : m.Values} {r : Reading} {p : Facts} {xs : List Va
         let made = (pointer_is p (count w.memory.blocks) here (held cell.Ptr there)).made in
         let parts = and_parts (int_le (pos 0) (block_of here)) _ made in (
           ap (int_le (pos 0)) (sym (block_is_loaded there)) ∙ parts.0,
-          ((λ i. int_lt (sym (block_is_loaded there) i) (count (stood.stands.table i))) ∙ parts.1, tt),
+          ((λ i. int_lt (sym (block_is_loaded there) i) (count (stood.stands.table on i))) ∙ parts.1, tt),
         )

@@ -39,7 +39,7 @@ use Rattle.value_terms.specs.Worlds.{IsOf, HoldsKinds}
 use Rattle.value_terms.specs.Laws.{ValuesAreOfKind}
 use Rattle.value_terms.proofs.Listing.{all, all_parts, all_map, all_same, deep}
 use Rattle.value_terms.proofs.Cells.{in_table, of_kind_same, cell_there, pointer_is, block_along, IsAddress, along_pointer, IndicesMet, reached, difference_held}
-use Rattle.value_terms.proofs.Holding.{number_of_kind, integer_given, as_given, holds_zero, truth_given, settle_met, given_held, arithmetic_held, complement_held, second_held, plain_is, global_is, read_has_value, split, same_later, some_blocks}
+use Rattle.value_terms.proofs.Holding.{asked_true, number_of_kind, integer_given, as_given, holds_zero, truth_given, settle_met, given_held, arithmetic_held, complement_held, second_held, plain_is, global_is, read_has_value, split, same_later, some_blocks}
 
 module _ {p : Facts} {xs : List Variable} {s : Scope} {tm : Temps} {w : World} (fine : HoldsKinds p xs s tm w) where
   pub local_set : (x : ℕ) (k : CellKind) (l : LocalHas xs s x k) (line : ℕ) (met : Check → Bool)
@@ -49,7 +49,7 @@ module _ {p : Facts} {xs : List Variable} {s : Scope} {tm : Temps} {w : World} (
       ap (λ o. has_value_in o || is_set_by (w.locals x)) (sym l.found) ∙ read_has_value (has_value xs x) (is_set_by (w.locals x)) line met e h
 
   -- the way leads to a cell of the kind
-  object_there : (r : Root) (ss : List Step) (k : CellKind) (vs : List Value) (met : Check → Bool) → ObjectIsTyped p xs s r ss k
+  pub object_there : (r : Root) (ss : List Step) (k : CellKind) (vs : List Value) (met : Check → Bool) → ObjectIsTyped p xs s r ss k
       → IndicesMet vs 0 ss met → all met (index_checks 0 ss) ≡ true
       → (is_pointed r ≡ true → is_cell k w.memory.blocks (block_of (along vs ss (start p w r vs))) (offset_of (along vs ss (start p w r vs))) ≡ true)
       → is_cell k w.memory.blocks (block_of (along vs ss (start p w r vs))) (offset_of (along vs ss (start p w r vs))) ≡ true
@@ -58,11 +58,6 @@ module _ {p : Facts} {xs : List Variable} {s : Scope} {tm : Temps} {w : World} (
       (λ i. is_cell k w.memory.blocks (block_along vs ss (start p w (root.Variable x) vs) i) (found.offset i))
       ∙ cell_there w.memory.blocks (home_of p w.locals x) h.0.variable.layout found.at k (fine.homes x h.0.variable h.0.is h.0.block) found.found
   object_there (root.Pointed n) ss k vs met h test all given = given refl
-
-  asked_true : (b c : Bool) (u : Undefined) (line : ℕ) (met : Check → Bool) → all met (one_if b u line) ≡ true → met (here u line) ≡ (if b then c else true)
-      → b ≡ true → c ≡ true
-  asked_true true c u line met h e q = sym e ∙ (and_parts (met (here u line)) true h).0
-  asked_true false c u line met h e q = absurd cc
 
   pub read_there : (type : CoreType) (path : Path) (vs : List Value) (met : Check → Bool) → cell_of type ≡ kind_given type
       → ObjectIsTyped p xs s path.root path.steps (kind_given type)
@@ -96,7 +91,7 @@ module _ {p : Facts} {xs : List Variable} {s : Scope} {tm : Temps} {w : World} (
   cell_stays (Some x) type path vs met o e h test all =
       subst (λ v. IsOf p w (cell_of type) v) (sym (global_content x type path vs o e h)) (global_held x type path o e h)
   cell_stays None type path vs met o e h test all =
-      let held = fine.cells (cell_of type) _ _ (read_there type path vs met e h test all) in
+      let held = fine.cells (cell_of type) _ _ (read_there type path vs met e h.1 test all) in
       subst (λ v. IsOf p w (cell_of type) v) (sym (of_kind_same p (count w.memory.blocks) (cell_of type) _ held)) held
 
   read_stays : (r : Option ℕ) (type : CoreType) (path : Path) (vs : List Value) (met : Check → Bool) → plain_root xs path.root ≡ r
@@ -161,8 +156,8 @@ module _ {p : Facts} {xs : List Variable} {s : Scope} {tm : Temps} {w : World} (
       → IsOf p w (kind_given type) (total_applied p xs w type o (totals p xs tm w es))
   unfolding total_applied op_test applied
   op_stays type l (op.Read path) es met h test have all = read_stays (plain_root xs path.root) type path _ met refl h test all
-  op_stays type l (op.Address path accessed) es met h test have all = address_stays type path es _ h.0 h.1 have
-  op_stays type l (op.Decay path accessed) es met h test have all = address_stays type path es _ h.0 h.1 have
+  op_stays type l (op.Address path accessed) es met h test have all = address_stays type path es _ h.0 h.2 have
+  op_stays type l (op.Decay path accessed) es met h test have all = address_stays type path es _ h.0 h.2 have
   op_stays type l op.Negate es met h test have all =
       let a = number_of_kind p _ _ (kind_at type) _ (h.1 ∙ integer_given type h.0.no_pointer) (have 0) in
       let z = number_of (value_at (totals p xs tm w es) 0) in
@@ -180,12 +175,12 @@ module _ {p : Facts} {xs : List Variable} {s : Scope} {tm : Temps} {w : World} (
       let e = op_settle p xs tm w type l (op.Arithmetic o) es met test ∙ settle_met (op_checks xs type l (op.Arithmetic o) es) met wrong _ all in
       as_given p _ type _ h.0.no_pointer (arithmetic_held p.model (kind_at type) l o _ _ a.held b e)
   op_stays type l (op.Compare c) es met h test have all = truth_given p _ type _ h
-  op_stays type l (op.ComparePointers c) es met h test have all = truth_given p _ type _ h
-  op_stays type l (op.Offset minus index_first size accessed) es met h test have all = offset_stays type es _ minus index_first size h.0 h.1 have
+  op_stays type l (op.ComparePointers c) es met h test have all = truth_given p _ type _ h.0
+  op_stays type l (op.Offset minus index_first size accessed) es met h test have all = offset_stays type es _ minus index_first size h.0 h.2 have
   op_stays type l (op.Difference size) es met h test have all =
       let ok = sym (test comparing l 0) ∙ (and_parts (met (here comparing l)) true all).0 in
       as_given p _ type _ h.0
-      (subst (λ k. holds p.model k (number_of (difference size (first (totals p xs tm w es)) (second (totals p xs tm w es)))) ≡ true) (sym h.1)
+      (subst (λ k. holds p.model k (number_of (difference size (first (totals p xs tm w es)) (second (totals p xs tm w es)))) ≡ true) (sym h.2)
       (difference_held p.model w.memory.blocks size (first (totals p xs tm w es)) (second (totals p xs tm w es)) fine.short ok))
   op_stays type l op.Convert es met h test have all = as_given p _ type _ h (conversions_keep p.model (kind_at type) _).held
   op_stays type l op.Requalify es met h test have all = subst (λ k. IsOf p w k (value_at (totals p xs tm w es) 0)) h (have 0)

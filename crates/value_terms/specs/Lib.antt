@@ -4,3 +4,5 @@ pub mod Words
 pub mod Typed
 pub mod Worlds
 pub mod Laws
+pub mod Places
+pub mod Examples

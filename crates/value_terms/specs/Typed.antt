@@ -42,8 +42,10 @@ operand_kind t.stop i = cell.Of kind.Int
 operand_kind (t.more e es) zero = kind_given (t.type_of e)
 operand_kind (t.more e es) (suc i) = operand_kind es i
 
--- What is known where an expression stands: which variables of the function are declared there, and the kind of each temporary that was set.
+-- What is known where an expression stands: which variables of the function are declared there, and the kind of each temporary that was set; and whether
+-- blocks are spoken of at all, which a program without pointers and arrays has no need of.
 pub record Scope : Type 0 where
+  pub has_blocks : Bool
   pub is_declared : (variable : ℕ) → Bool
   pub temporaries : (number : ℕ) → Option CellKind
 
@@ -101,7 +103,7 @@ module _ (p : Facts) (xs : List Variable) (s : Scope) where
 
   abbrev pub CellIsTyped : Option ℕ → Root → List Step → CellKind → Type 0
   CellIsTyped (Some x) o ss k = GlobalHas p x k × (ss ≡ [])
-  CellIsTyped None o ss k = ObjectIsTyped o ss k
+  CellIsTyped None o ss k = (s.has_blocks ≡ true) × ObjectIsTyped o ss k
 
   abbrev pub ReadIsTyped : Option ℕ → CoreType → Path → Type 0
   ReadIsTyped (Some x) type path = LocalHas xs s x (kind_given type)
@@ -117,17 +119,18 @@ module _ (p : Facts) (xs : List Variable) (s : Scope) where
 
   abbrev pub OpIsTyped : CoreType → Op → t.Values → Type 0
   OpIsTyped type (op.Read path) es = ReadIsTyped (plain_root xs path.root) type path
-  OpIsTyped type (op.Address path accessed) es = (is_pointer type ≡ true) × StartIsTyped path.root es
-  OpIsTyped type (op.Decay path accessed) es = (is_pointer type ≡ true) × StartIsTyped path.root es
+  OpIsTyped type (op.Address path accessed) es = (is_pointer type ≡ true) × (s.has_blocks ≡ true) × StartIsTyped path.root es
+  OpIsTyped type (op.Decay path accessed) es = (is_pointer type ≡ true) × (s.has_blocks ≡ true) × StartIsTyped path.root es
   OpIsTyped type op.Negate es = IsInteger type × (operand_kind es 0 ≡ kind_given type)
   OpIsTyped type op.Complement es = IsInteger type × (operand_kind es 0 ≡ kind_given type)
   OpIsTyped type op.Not es = is_pointer type ≡ false
   OpIsTyped type (op.Arithmetic o) es =
       IsInteger type × (operand_kind es 0 ≡ kind_given type) × second_is o (kind_given type) (operand_kind es 1)
   OpIsTyped type (op.Compare c) es = is_pointer type ≡ false
-  OpIsTyped type (op.ComparePointers c) es = is_pointer type ≡ false
-  OpIsTyped type (op.Offset minus index_first size accessed) es = (is_pointer type ≡ true) × (operand_kind es (if index_first then 1 else 0) ≡ cell.Ptr)
-  OpIsTyped type (op.Difference size) es = (is_pointer type ≡ false) × (kind_at type ≡ difference_kind p.model)
+  OpIsTyped type (op.ComparePointers c) es = (is_pointer type ≡ false) × (s.has_blocks ≡ true)
+  OpIsTyped type (op.Offset minus index_first size accessed) es =
+      (is_pointer type ≡ true) × (s.has_blocks ≡ true) × (operand_kind es (if index_first then 1 else 0) ≡ cell.Ptr)
+  OpIsTyped type (op.Difference size) es = (is_pointer type ≡ false) × (s.has_blocks ≡ true) × (kind_at type ≡ difference_kind p.model)
   OpIsTyped type op.Convert es = is_pointer type ≡ false
   OpIsTyped type op.Requalify es = operand_kind es 0 ≡ kind_given type
   OpIsTyped type op.Cast es = is_pointer type ≡ false

@@ -1,5 +1,7 @@
 // What is so of terms and words.
+ghost use Rattle.value_terms.specs.Examples.{Texts};
 ghost use Rattle.value_terms.specs.Laws.{AllIsWellFormed, FormulasMeanChecks, TermsMeanValues, ValuesAreOfKind, WordsHaveTheChecks};
+ghost use Rattle.value_terms.specs.Places.{OperandsAreMeant, OperandsAreWellFormed, WaysAreMeant};
 
 /// Where variables hold values of their kinds, a typed expression whose checks are met has a value of its kind.
 pub fn values_are_of_kind()
@@ -25,4 +27,24 @@ pub fn words_have_the_checks()
 /// All terms and formulas that are made of a well formed reading are well formed.
 pub fn all_is_well_formed()
     ensures { AllIsWellFormed }
+{}
+
+/// What is so of expressions is so of a list of operands, one by one.
+pub fn operands_are_meant()
+    ensures { OperandsAreMeant }
+{}
+
+/// The address of an object that is written means where its way leads, and the formulas of its checks mean these; behind them it is a cell of the kind.
+pub fn ways_are_meant()
+    ensures { WaysAreMeant }
+{}
+
+/// Terms of operands and of ways that are made of a well formed reading are well formed, and so are their words.
+pub fn operands_are_well_formed()
+    ensures { OperandsAreWellFormed }
+{}
+
+/// Terms and words of small expressions are those that were worked out by hand.
+pub fn texts()
+    ensures { Texts }
 {}

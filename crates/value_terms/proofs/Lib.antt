@@ -16,3 +16,4 @@ mod Fitting
 mod FittingWords
 mod Places
 mod Examples
+mod Existing

@@ -72,3 +72,17 @@ pub record IsWellFormed (p : Facts) (xs : List Variable) (r : Reading) (e : t.Va
 
 abbrev pub AllIsWellFormed : Type 0
 AllIsWellFormed = (p : Facts) (xs : List Variable) (r : Reading) → readings.IsWellFormed r → (e : t.Value) → IsWellFormed p xs r e
+
+-- ---- readings there are
+
+-- a well formed reading that stands for the world, under some values of its names
+pub record HasReading (p : Facts) (xs : List Variable) (s : Scope) (tm : Temps) (w : World) : Type 0 where
+  pub world : m.World
+  pub values : m.Values
+  pub reading : Reading
+  pub stood : Stood world values reading p xs s tm w
+  pub well_formed : readings.IsWellFormed reading
+
+-- Each world whose variables and cells hold values of their kinds has one, so that what is said of readings is said of each such world.
+abbrev pub WorldsHaveReadings : Type 0
+WorldsHaveReadings = (p : Facts) (xs : List Variable) (s : Scope) (tm : Temps) (w : World) → HoldsKinds p xs s tm w → HasReading p xs s tm w

@@ -1,6 +1,6 @@
 // What is so of terms and words.
 ghost use Rattle.value_terms.specs.Examples.{Texts};
-ghost use Rattle.value_terms.specs.Laws.{AllIsWellFormed, FormulasMeanChecks, TermsMeanValues, ValuesAreOfKind, WordsHaveTheChecks};
+ghost use Rattle.value_terms.specs.Laws.{AllIsWellFormed, FormulasMeanChecks, TermsMeanValues, ValuesAreOfKind, WordsHaveTheChecks, WorldsHaveReadings};
 ghost use Rattle.value_terms.specs.Places.{OperandsAreMeant, OperandsAreWellFormed, WaysAreMeant};
 
 /// Where variables hold values of their kinds, a typed expression whose checks are met has a value of its kind.
@@ -47,4 +47,9 @@ pub fn operands_are_well_formed()
 /// Terms and words of small expressions are those that were worked out by hand.
 pub fn texts()
     ensures { Texts }
+{}
+
+/// Each world whose variables and cells hold values of their kinds has a well formed reading that stands for it.
+pub fn worlds_have_readings()
+    ensures { WorldsHaveReadings }
 {}

@@ -1,0 +1,11 @@
+pub mod Sets
+pub mod Keeping
+pub mod Writes
+pub mod Scopes
+pub mod Objects
+pub mod Calls
+pub mod Evals
+pub mod Endings
+pub mod Statements
+pub mod Levels
+pub mod Whole

@@ -100,7 +100,7 @@ all_are_core (Some f) = all_core f.variables f.body
 normal_is_core : (p : Program Stmts) → IsCore (normal p)
 normal_is_core p n g h = sym (ap is_core_if h) ∙ all_are_core (p.functions n)
 
-spelled_is : (p : Program Stmts) (k : ℕ) (vs : List Value) (m : Memory) (n : ℕ) (contents : List Value)
+pub spelled_is : (p : Program Stmts) (k : ℕ) (vs : List Value) (m : Memory) (n : ℕ) (contents : List Value)
     → spelled.run_function p k vs m n contents ≡ run_function (add_checks (normal p)) k vs m n contents
 spelled_is p k vs m n contents = sym (checks_keep (normal p) (normal_is_core p) k vs m n contents ∙ same_outcome p k vs m n contents)
 

@@ -1,0 +1,11 @@
+pub mod Including
+pub mod Heads
+pub mod Singles
+pub mod Following
+pub mod Deep
+pub mod Loops
+pub mod Arguments
+pub mod Calls
+pub mod Statements
+pub mod Runs
+pub mod Spelled

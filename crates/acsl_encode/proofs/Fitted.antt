@@ -1,0 +1,260 @@
+-- Formulas and terms of whole annotations are well formed.
+use Rattle.std.proofs.Common.{◌≡◌, ℕ, zero, suc, ◌+◌, ◌==◌, Bool, true, false, ◌&&◌, List, [], ◌∷◌, length, refl, sym, ap, ◌∙◌, subst}
+use Rattle.std.specs.Prelude.{ℤ, pos, ◌-◌, ◌+ℤ◌, Option, Some, None, if◌then◌else◌}
+use Rattle.typed_prog.specs.declared.operators.Comparison.TheVariants as cmp
+use Rattle.typed_prog.specs.declared.operators.Arithmetic.TheVariants as ar
+use Rattle.c_kinds.specs.declared.models.Machdep.{Machdep}
+use Rattle.c_kinds.specs.Models.{low, high}
+use Rattle.acsl_trees.specs.declared.heads.Label.{Label}
+use Rattle.acsl_trees.specs.declared.heads.Label.TheVariants as label
+use Rattle.acsl_trees.specs.declared.heads.Range.{Range}
+use Rattle.acsl_trees.specs.declared.heads.Range.TheVariants as range
+use Rattle.acsl_trees.specs.declared.heads.Head.{Head}
+use Rattle.acsl_trees.specs.declared.heads.Head.TheVariants as hd
+use Rattle.acsl_trees.specs.Tree.{Tree, Trees, node, stop, more}
+use Rattle.acsl_truth.specs.Truth.{heads_of}
+use Rattle.qed_terms.specs.Tree.{Tree as Term, num, var, and_of, or_of, imp_of, not_of}
+use Rattle.qed_terms.specs.declared.head.TermOp.TheVariants as op
+use Rattle.qed_terms.specs.declared.head.Head.{Head as TermHead}
+use Rattle.qed_terms.specs.declared.head.Head.TheVariants as th
+use Rattle.qed_terms.specs.WellFormed.{fits, int, formula}
+use Rattle.acsl_encode.specs.Readings as reading
+use Rattle.acsl_encode.specs.Readings.{Terms, integer, nothing, Seen, Reading, seen_at, seen_in, moved_to}
+use Rattle.acsl_encode.specs.Encode as encode
+use Rattle.acsl_encode.specs.Encode.{Pointer, comparison, pointer_comparison, iff_of, op_one, op_two, as_integer, as_pointer, as_formula, terms_at, unbounded, with_one, with_two, all_of, linked, all_linked, in_chain, Ends, ends_of, low_end, high_end, kind_of, over, quantified, Names, with_name, encoded, all_encoded, binders, no_names, terms_of, body_of}
+use Rattle.acsl_encode.specs.WellFormed.{IsInt, IsFormula, TermsFit, SeenFits, ReadingFits, Fits, FormulasFit}
+use Rattle.acsl_encode.proofs.Operands.{Holds}
+use Rattle.acsl_encode.proofs.Fitting.{both, only, all_three, number_fits, two_fit, not_fits, comparison_fits, arithmetic_fits, pointers_fit, further_fits, moved_fits, difference_fits, AllFormulas, all_of_fits, PointerFits, integer_fits, formula_fits, pointer_fits, on_one, on_two, variable_fits, read_fits, converted_fits, either_fits}
+
+-- ---- kids
+
+abbrev AllFit : List Terms → Type 0
+AllFit [] = Unit {0}
+AllFit (x ∷ xs) = TermsFit x × AllFit xs
+
+kid_fits : (xs : List Terms) (i : ℕ) → AllFit xs → TermsFit (terms_at xs i)
+kid_fits [] i h = tt
+kid_fits (x ∷ xs) zero h = h.0
+kid_fits (x ∷ xs) (suc i) h = kid_fits xs i h.1
+
+seen_fits : (l : Label) (r : Reading) → ReadingFits r → SeenFits (seen_at l r)
+seen_fits label.Here r h = h.here
+seen_fits label.Pre r h = h.pre
+seen_fits label.Post r h = h.post
+seen_fits label.LoopEntry r h = h.loop_entry
+
+moved_reading : (l : Label) (r : Reading) → ReadingFits r → ReadingFits (moved_to l r)
+moved_reading l r h = record {
+  here = seen_fits l r h;
+  pre = h.pre;
+  post = h.post;
+  loop_entry = h.loop_entry;
+  result = h.result;
+  binders = h.binders;
+}
+
+-- ---- heads
+
+module _ (r : Reading) (good : ReadingFits r) (xs : List Terms) (h : AllFit xs) where
+  integer_at : (i : ℕ) → Holds IsInt (as_integer (terms_at xs i))
+  integer_at i = integer_fits (terms_at xs i) (kid_fits xs i h)
+
+  formula_at : (i : ℕ) → Holds IsFormula (as_formula (terms_at xs i))
+  formula_at i = formula_fits (terms_at xs i) (kid_fits xs i h)
+
+  pointer_at : (i : ℕ) → Holds PointerFits (as_pointer (terms_at xs i))
+  pointer_at i = pointer_fits (terms_at xs i) (kid_fits xs i h)
+
+  on_integer : (f : Term → Term) → ((t : Term) → IsInt t → IsInt (f t)) → TermsFit (with_one (λ t. unbounded (f t)) (as_integer (terms_at xs 0)))
+  on_integer f made = on_one IsInt (λ t. unbounded (f t)) (as_integer (terms_at xs 0)) (integer_at 0) made
+
+  on_formulas : (f : Term → Term → Term) → ((a b : Term) → IsFormula a → IsFormula b → IsFormula (f a b))
+      → TermsFit (with_two (λ a b. reading.truth (f a b)) (as_formula (terms_at xs 0)) (as_formula (terms_at xs 1)))
+  on_formulas f made =
+      on_two IsFormula IsFormula (λ a b. reading.truth (f a b)) (as_formula (terms_at xs 0)) (as_formula (terms_at xs 1)) (formula_at 0) (formula_at 1) made
+
+  moved_at : (minus : Bool) (n : ℕ) → TermsFit (with_two (encode.moved minus n) (as_pointer (terms_at xs 0)) (as_integer (terms_at xs 1)))
+  moved_at minus n = on_two PointerFits IsInt (encode.moved minus n) (as_pointer (terms_at xs 0)) (as_integer (terms_at xs 1)) (pointer_at 0) (integer_at 1) (moved_fits minus n)
+
+  read_at : (c : _) (l : Option Label) → TermsFit (encode.read c (seen_in l r) (terms_at xs 0))
+  read_at c None = read_fits c r.here (terms_at xs 0) good.here (kid_fits xs 0 h)
+  read_at c (Some l) = read_fits c (seen_at l r) (terms_at xs 0) (seen_fits l r good) (kid_fits xs 0 h)
+
+  applied_fits : (head : Head) → TermsFit (encode.applied r head xs)
+  applied_fits (hd.Number z) = number_fits z
+  applied_fits hd.Null = (number_fits (pos 0), number_fits (pos 0))
+  applied_fits (hd.Name x) = tt
+  applied_fits (hd.Call f) = tt
+  applied_fits hd.Result = good.result
+  applied_fits (hd.At l) = tt
+  applied_fits (hd.Variable x) = variable_fits x (r.here.variable x) (good.here.variables x)
+  applied_fits hd.Pointed = kid_fits xs 0 h
+  applied_fits (hd.Field k n) =
+      on_one PointerFits (λ p. reading.address p.block (encode.further n p.offset)) (as_pointer (terms_at xs 0)) (pointer_at 0) (λ p f. (f.0, further_fits n p.offset f.1))
+  applied_fits (hd.Element n count) = moved_at false n
+  applied_fits (hd.Elements n count) = tt
+  applied_fits (hd.Behind n) = tt
+  applied_fits (hd.Read c l) = read_at c l
+  applied_fits hd.Address = kid_fits xs 0 h
+  applied_fits (hd.Moved minus n) = moved_at minus n
+  applied_fits (hd.Difference n) =
+      on_two PointerFits PointerFits (λ p p'. unbounded (encode.difference n p p')) (as_pointer (terms_at xs 0)) (as_pointer (terms_at xs 1)) (pointer_at 0) (pointer_at 1)
+      (difference_fits n)
+  applied_fits hd.Negate = on_integer (op_one op.Neg) (λ t k. let e = only (fits int t) k.int in record { int = e; argument = e })
+  applied_fits hd.Complement = on_integer (op_one op.BitNot) (λ t k. let e = only (fits int t) k.int in record { int = e; argument = e })
+  applied_fits (hd.Arithmetic o) =
+      on_two IsInt IsInt (λ t u. unbounded (op_two (encode.op_of o) t u)) (as_integer (terms_at xs 0)) (as_integer (terms_at xs 1)) (integer_at 0) (integer_at 1) (arithmetic_fits o)
+  applied_fits (hd.Convert k) = converted_fits r.common.model k (terms_at xs 0) (kid_fits xs 0 h)
+  applied_fits (hd.Compare c) =
+      on_two IsInt IsInt (λ t u. reading.truth (comparison c t u)) (as_integer (terms_at xs 0)) (as_integer (terms_at xs 1)) (integer_at 0) (integer_at 1) (comparison_fits c)
+  applied_fits (hd.ComparePointers c) =
+      on_two PointerFits PointerFits (λ p p'. reading.truth (pointer_comparison c p p')) (as_pointer (terms_at xs 0)) (as_pointer (terms_at xs 1)) (pointer_at 0) (pointer_at 1)
+      (pointers_fit c)
+  applied_fits hd.Not = on_one IsFormula (λ f. reading.truth (not_of f)) (as_formula (terms_at xs 0)) (formula_at 0) not_fits
+  applied_fits hd.And = on_formulas (λ f g. and_of (f ∷ g ∷ [])) two_fit
+  applied_fits hd.Or = on_formulas (λ f g. or_of (f ∷ g ∷ [])) two_fit
+  applied_fits hd.Xor = on_formulas (λ f g. not_of (iff_of f g)) (λ f g k m. not_fits (iff_of f g) (two_fit f g k m))
+  applied_fits hd.Implies = on_formulas imp_of two_fit
+  applied_fits hd.Iff = on_formulas iff_of two_fit
+  applied_fits hd.Choose =
+      on_one IsFormula (encode.either (terms_at xs 1) (terms_at xs 2)) (as_formula (terms_at xs 0)) (formula_at 0)
+      (λ c e. either_fits (terms_at xs 1) (terms_at xs 2) c e (kid_fits xs 1 h) (kid_fits xs 2 h))
+  applied_fits hd.Chain = tt
+  applied_fits (hd.Link c) = kid_fits xs 0 h
+  applied_fits (hd.LinkPointers c) = kid_fits xs 0 h
+  applied_fits hd.Let = tt
+  applied_fits (hd.Every g) = tt
+  applied_fits (hd.Some g) = tt
+  applied_fits (hd.Valid c writable) = tt
+  applied_fits hd.Separated = tt
+  applied_fits (hd.Region c) = tt
+
+-- ---- chains
+
+both_there : (o : Option Term) (os : Option (List Term)) → Holds IsFormula o → Holds AllFormulas os → Holds AllFormulas (encode.both o os)
+both_there (Some f) (Some fs) h k = (h, k)
+both_there (Some f) None h k = tt
+both_there None os h k = tt
+
+compared : {X : Type 0} (p : X → Type 0) (f : X → X → Term) (o o' : Option X) → Holds p o → Holds p o' → ((x y : X) → p x → p y → IsFormula (f x y))
+    → Holds IsFormula (encode.on_two f o o')
+compared p f (Some x) (Some y) h k made = made x y h k
+compared p f (Some x) None h k made = tt
+compared p f None o' h k made = tt
+
+link_fits : (l : Head) (x y : Terms) → TermsFit x → TermsFit y → Holds IsFormula (linked l x y)
+link_fits (hd.Link c) x y h k = compared IsInt (comparison c) (as_integer x) (as_integer y) (integer_fits x h) (integer_fits y k) (comparison_fits c)
+link_fits (hd.LinkPointers c) x y h k = compared PointerFits (pointer_comparison c) (as_pointer x) (as_pointer y) (pointer_fits x h) (pointer_fits y k) (pointers_fit c)
+link_fits _ x y h k = tt
+
+links_fit : (ls : List Head) (x : Terms) (ys : List Terms) → TermsFit x → AllFit ys → Holds AllFormulas (all_linked x ls ys)
+links_fit [] x ys h k = tt
+links_fit (l ∷ ls) x [] h k = tt
+links_fit (l ∷ ls) x (y ∷ ys) h k = both_there (linked l x y) (all_linked y ls ys) (link_fits l x y h k.0) (links_fit ls y ys k.0 k.1)
+
+chain_fits : (ls : List Head) (xs : List Terms) → AllFit xs → Holds AllFormulas (in_chain ls xs)
+chain_fits [] xs h = tt
+chain_fits (l ∷ ls) [] h = tt
+chain_fits (l ∷ ls) (x ∷ xs) h = links_fit ls x xs h.0 h.1
+
+-- ---- quantifiers
+
+abbrev EndsFit : Ends → Type 0
+EndsFit e = IsInt e.low × IsInt e.high
+
+low_fits : (out : Bool) (t : Term) → IsInt t → IsInt (low_end out t)
+low_fits true t h = arithmetic_fits ar.Add t (num (pos 1)) h (number_fits (pos 1))
+low_fits false t h = h
+
+high_fits : (out : Bool) (t : Term) → IsInt t → IsInt (high_end out t)
+high_fits true t h = h
+high_fits false t h = arithmetic_fits ar.Add t (num (pos 1)) h (number_fits (pos 1))
+
+ends_fit : (m : Machdep) (g : Range) (xs : List Terms) → AllFit xs → Holds EndsFit (ends_of m g xs)
+ends_fit m (range.Between p p') xs h = by (as_integer (terms_at xs 0)) (as_integer (terms_at xs 1)) (integer_fits (terms_at xs 0) (kid_fits xs 0 h)) (integer_fits (terms_at xs 1) (kid_fits xs 1 h))
+  where
+    by : (o o' : Option Term) → Holds IsInt o → Holds IsInt o' → Holds EndsFit (encode.on_two (λ t u. record { low = low_end p t; high = high_end p' u }) o o')
+    by (Some t) (Some u) h k = (low_fits p t h, high_fits p' u k)
+    by (Some t) None h k = tt
+    by None o' h k = tt
+ends_fit m (range.Kind k) xs h = (number_fits (low m k), number_fits (high m k +ℤ pos 1))
+
+-- the head may stand for a formula, and binds a name
+abbrev Quantifies : TermHead → Type 0
+Quantifies q = (e : Ends) (f : Term) → EndsFit e → IsFormula f → IsFormula (over q e f)
+
+quantified_fits : (q : TermHead) (o : Option Ends) (o' : Option Term) → Quantifies q → Holds EndsFit o → Holds IsFormula o' → TermsFit (quantified q o o')
+quantified_fits q o o' made h k = on_two EndsFit IsFormula (λ e f. reading.truth (over q e f)) o o' h k (λ e f h k. made e f h k)
+
+named : (b : Bool) → (b && true) ≡ true → b ≡ true
+named true h = refl
+named false h = h
+
+forall_fits : (x : List ℕ) → IsInt (var x) → Quantifies (th.Forall x)
+forall_fits x n e f h k = λ i. named _ n.int i && all_three (fits int e.low) (fits int e.high) (fits formula f) h.0.int h.1.int k i
+
+exists_fits : (x : List ℕ) → IsInt (var x) → Quantifies (th.Exists x)
+exists_fits x n e f h k = λ i. named _ n.int i && all_three (fits int e.low) (fits int e.high) (fits formula f) h.0.int h.1.int k i
+
+-- ---- trees
+
+abbrev NamesFit : Names → Type 0
+NamesFit ns = (x : ℕ) → TermsFit (ns x)
+
+named_fits : (d : ℕ) (t : Terms) (ns : Names) → TermsFit t → NamesFit ns → NamesFit (with_name d t ns)
+named_fits d t ns h k y = by (y == d)
+  where
+    by : (b : Bool) → TermsFit (if b then t else ns y)
+    by true = h
+    by false = k y
+
+abbrev KidsFit : Trees → Type 0
+KidsFit ks = (r : Reading) (ns : Names) (i d : ℕ) → ReadingFits r → NamesFit ns → AllFit (all_encoded r ns i d ks)
+
+let_fits : (ks : Trees) → KidsFit ks → (r : Reading) (ns : Names) (i d : ℕ) → ReadingFits r → NamesFit ns → TermsFit (encoded r ns i d (node hd.Let ks))
+let_fits ks h r ns i d good k =
+    let first = terms_at (all_encoded r ns i d ks) 0 in
+    let inside = with_name d first ns in
+    let xs = all_encoded r inside i (suc d) ks in
+    kid_fits xs (length xs - 1) (h r inside i (suc d) good (named_fits d first ns (kid_fits (all_encoded r ns i d ks) 0 (h r ns i d good k)) k))
+
+body_fits : (g : Range) (ks : Trees) → KidsFit ks → (r : Reading) (ns : Names) (i d : ℕ) → ReadingFits r → NamesFit ns
+    → Holds IsFormula (as_formula (body_of (λ r' ns' i' d'. all_encoded r' ns' i' d' ks) r ns i d g))
+body_fits g ks h r ns i d good k =
+    let inside = with_name d (integer (kind_of g) (var (r.common.binder i))) ns in
+    let xs = all_encoded r inside (suc i) (suc d) ks in
+    formula_fits (encode.last_of xs) (kid_fits xs (length xs - 1) (h r inside (suc i) (suc d) good (named_fits d (integer (kind_of g) (var (r.common.binder i))) ns (good.binders i) k)))
+
+mutual
+  tree_fits : (t : Tree) (r : Reading) (ns : Names) (i d : ℕ) → ReadingFits r → NamesFit ns → TermsFit (encoded r ns i d t)
+  tree_fits (node (hd.Name x) ks) r ns i d good k = k x
+  tree_fits (node (hd.Call f) ks) r ns i d good k = tt
+  tree_fits (node (hd.At l) ks) r ns i d good k =
+      kid_fits (all_encoded (moved_to l r) ns i d ks) 0 (trees_fit ks (moved_to l r) ns i d (moved_reading l r good) k)
+  tree_fits (node hd.Let ks) r ns i d good k = let_fits ks (trees_fit ks) r ns i d good k
+  tree_fits (node (hd.Every g) ks) r ns i d good k =
+      quantified_fits (th.Forall (r.common.binder i)) (ends_of r.common.model g (all_encoded r ns (suc i) d ks)) _ (forall_fits (r.common.binder i) (good.binders i))
+      (ends_fit r.common.model g (all_encoded r ns (suc i) d ks) (trees_fit ks r ns (suc i) d good k)) (body_fits g ks (trees_fit ks) r ns i d good k)
+  tree_fits (node (hd.Some g) ks) r ns i d good k =
+      quantified_fits (th.Exists (r.common.binder i)) (ends_of r.common.model g (all_encoded r ns (suc i) d ks)) _ (exists_fits (r.common.binder i) (good.binders i))
+      (ends_fit r.common.model g (all_encoded r ns (suc i) d ks) (trees_fit ks r ns (suc i) d good k)) (body_fits g ks (trees_fit ks) r ns i d good k)
+  tree_fits (node hd.Chain ks) r ns i d good k =
+      on_one AllFormulas (λ fs. reading.truth (all_of fs)) (in_chain (heads_of ks) (all_encoded r ns i d ks))
+      (chain_fits (heads_of ks) (all_encoded r ns i d ks) (trees_fit ks r ns i d good k)) all_of_fits
+  tree_fits (node head ks) r ns i d good k = applied_fits r good (all_encoded r ns i d ks) (trees_fit ks r ns i d good k) head
+
+  trees_fit : (ts : Trees) → KidsFit ts
+  trees_fit stop r ns i d good k = tt
+  trees_fit (more t ts) r ns i d good k = (tree_fits t r ns i d good k, trees_fit ts r ns (i + binders t) d good k)
+
+there : {X : Type 0} (p : X → Type 0) (o : Option X) (x : X) → Holds p o → o ≡ Some x → p x
+there p o x h e = subst (Holds p) e h
+
+pub formulas_fit : FormulasFit
+formulas_fit r t good =
+    let fit = tree_fits t r no_names 0 0 good (λ x. tt) in
+    record {
+      formula = λ f e. there IsFormula (as_formula (terms_of r t)) f (formula_fits (terms_of r t) fit) e;
+      number = λ u e. there IsInt (as_integer (terms_of r t)) u (integer_fits (terms_of r t) fit) e;
+      pointer = λ p e. there PointerFits (as_pointer (terms_of r t)) p (pointer_fits (terms_of r t) fit) e;
+    }

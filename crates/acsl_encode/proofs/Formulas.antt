@@ -1,0 +1,53 @@
+-- Formulas and terms of whole annotations.
+use Rattle.std.proofs.Common.{◌≡◌, ℕ, Bool, List, [], refl, sym, ap, ◌∙◌, subst}
+use Rattle.std.specs.Prelude.{ℤ, pos, Option, Some}
+use Rattle.acsl_trees.specs.Tree.{Tree}
+use Rattle.acsl_expand.specs.Expansion.{Definition}
+use Rattle.acsl_truth.specs.States as state
+use Rattle.acsl_truth.specs.States.{Value, World, number_of}
+use Rattle.acsl_truth.specs.Truth.{calls_of, named, value}
+use Rattle.qed_terms.specs.Meaning.{Values, World as Logic}
+use Rattle.acsl_encode.specs.Readings.{Reading}
+use Rattle.acsl_encode.specs.Encode.{no_names, terms_of, as_integer, as_formula, as_pointer}
+use Rattle.acsl_encode.specs.Meaning.{Means, Stands}
+use Rattle.acsl_encode.specs.Binders.{Spelled, numbered, Differ}
+use Rattle.acsl_encode.specs.Laws.{IsUnbound, MeansTheSame, FormulasMean}
+use Rattle.acsl_encode.proofs.Operands.{Holds, IsNumber, IsTruth, IsPointer, as_number, as_truth, as_address}
+use Rattle.acsl_encode.proofs.Around.{Around, later_same}
+use Rattle.acsl_encode.proofs.Naming.{binders_differ}
+use Rattle.acsl_encode.proofs.Unbound.{still_stands}
+use Rattle.acsl_encode.proofs.Annotated.{same_meaning}
+
+there : {X : Type 0} (p : X → Type 0) (o : Option X) (x : X) → Holds p o → o ≡ Some x → p x
+there p o x h e = subst (Holds p) e h
+
+names_differ : (names : Spelled) (r : Reading) → IsUnbound names r → Differ r.common.binder
+names_differ names r u i j e = binders_differ names u.spelled i j (sym (u.binders i) ∙ e ∙ u.binders j)
+
+pub formulas_mean : FormulasMean
+formulas_mean q names r ds env w t u stands =
+    record {
+      formula = λ f e. sym (there (IsTruth q r.common env v) (as_formula (terms_of r t)) f (as_truth q r.common env (terms_of r t) v means) e);
+      number = λ n e. sym (ap number_of (there (IsNumber q r.common env v) (as_integer (terms_of r t)) n (as_number q r.common env (terms_of r t) v means) e));
+      pointer = λ p e. (there (IsPointer q r.common env v) (as_pointer (terms_of r t)) p (as_address q r.common env (terms_of r t) v means) e).0;
+    }
+  where
+    v : Value
+    v = value (calls_of ds) (named []) 0 w t
+
+    start : Around q (calls_of ds)
+    start = record {
+      r = r;
+      w = w;
+      env = env;
+      ns = no_names;
+      values = named [];
+      i = 0;
+      d = 0;
+      differ = names_differ names r u;
+      stands = still_stands q names r env w u stands;
+      fits = λ env' l x. tt;
+    }
+
+    means : Means q r.common env (terms_of r t) v
+    means = same_meaning q (calls_of ds) t start

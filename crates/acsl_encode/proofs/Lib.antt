@@ -1,0 +1,13 @@
+pub mod Numbers
+pub mod Operands
+pub mod Operations
+pub mod Heads
+pub mod Nodes
+pub mod Around
+pub mod Ranging
+pub mod Annotated
+pub mod Naming
+pub mod Unbound
+pub mod Formulas
+pub mod Fitting
+pub mod Fitted

@@ -1,0 +1,82 @@
+-- Terms without names of binders mean the same whatever binders are, so a reading stands as before.
+use Rattle.std.proofs.Common.{◌≡◌, ℕ, Bool, true, false, refl, sym, ap, ◌∙◌, subst}
+use Rattle.std.specs.Prelude.{ℤ, pos, Option, Some, List}
+use Rattle.c_kinds.specs.Models.{holds}
+use Rattle.qed_terms.specs.Fresh.{Lacks}
+use Rattle.std.proofs.lemmas.Bool.{false≢true}
+use Rattle.wp_base.specs.declared.kinds.Kind.{Kind}
+use Rattle.typed_prog.specs.declared.operators.Variable.{Variable}
+use Rattle.acsl_truth.specs.States as state
+use Rattle.acsl_truth.specs.States.{Value, State, World}
+use Rattle.qed_terms.specs.declared.head.Sort.{Sort}
+use Rattle.qed_terms.specs.declared.head.Sort.TheVariants as sort
+use Rattle.qed_terms.specs.Tree.{Tree as Term}
+use Rattle.qed_terms.specs.Free.{is_free}
+use Rattle.qed_terms.specs.Memory as memory
+use Rattle.qed_terms.specs.Meaning as meant
+use Rattle.qed_terms.specs.Meaning.{Values, World as Logic, Whole, Cells, Blocks, value_of, meaning, whole, is_so}
+use Rattle.qed_terms.proofs.FreeNames.{meaning_of_free_names}
+use Rattle.acsl_encode.specs.Readings.{Terms, integer, truth, address, variable, elements, nothing, Slot, pointer, home, Seen, Common, Reading}
+use Rattle.acsl_encode.specs.Readings as reading
+use Rattle.acsl_encode.specs.Meaning.{number_in, is_so_in, load_in, Means, IsOfKind, HasAddress, SlotStands, SeenStands, Stands}
+use Rattle.acsl_encode.specs.Binders.{Binders, Spelled, numbered, IsUnmarked, Later, mark}
+use Rattle.acsl_encode.specs.Laws.{TermsUnmarked, SlotUnmarked, SeenUnmarked, IsUnbound}
+use Rattle.acsl_encode.proofs.Naming.{has_mark}
+
+module _ (q : Logic) (names : Spelled) (b : Binders) (is : (n : ℕ) → b n ≡ numbered names n) (env env' : Values) (l : Later b 0 env env') where
+  pub unmarked_means : (t : Term) → IsUnmarked t → meaning q env t ≡ meaning q env' t
+  unmarked_means t h = meaning_of_free_names q t env env' agree
+    where
+      agree : (x : List ℕ) (s : Sort) → is_free x s t ≡ true → value_of env x s ≡ value_of env' x s
+      agree x sort.Int f = ap Whole (sym (l.ints x (λ n le e. has_mark names n (subst (λ y. Lacks mark y) (sym e ∙ is n) (h x sort.Int f)))))
+      agree x sort.Memory f = ap Cells (sym (l.memories x))
+      agree x sort.Table f = ap Blocks (sym (l.tables x))
+
+  number_same : (t : Term) → IsUnmarked t → number_in q env t ≡ number_in q env' t
+  number_same t h = ap whole (unmarked_means t h)
+
+  load_same : (t : Term) → IsUnmarked t → (b o : ℤ) → load_in q env t b o ≡ load_in q env' t b o
+  load_same t h b o = ap (λ v. memory.load (meant.memory v) b o) (unmarked_means t h)
+
+  module _ (r : Common) where
+    pub terms_stand : (x : Terms) (v : Value) → TermsUnmarked x → Means q r env x v → Means q r env' x v
+    terms_stand (integer k t) v u h = subst (λ z. (v ≡ state.number z) × IsOfKind r.model k z) (number_same t u) h
+    terms_stand (truth f) v u h = h ∙ ap (λ v. state.truth (is_so v)) (unmarked_means f u)
+    terms_stand (address b o) v u h = let p = number_same b u.0 in let e = number_same o u.1 in (h.0 ∙ (λ i. state.pointer (p i) (e i)), subst HasAddress p h.1)
+    terms_stand (variable x) v u h = h
+    terms_stand (elements b o n low high) v u h =
+        let p = number_same b u.0 in let e = number_same o u.1 in let a = number_same low u.2 in let z = number_same high u.3 in
+        h ∙ (λ i. state.addresses (record { block = p i; offset = e i; size = pos n; low = a i; high = z i }))
+    terms_stand nothing v u h = tt
+
+    slot_stands : (x : Variable) (s : Slot) (st : State) → SlotUnmarked s → SlotStands q r env x s st → SlotStands q r env' x s st
+    slot_stands x (reading.whole k t) st u h = (h.0, terms_stand (integer (Some k) t) (st.cells (r.hidden x) (pos 0)) u h.1)
+    slot_stands x (pointer b o) st u h = (h.0, terms_stand (address b o) (st.cells (r.hidden x) (pos 0)) u h.1)
+    slot_stands x (home b) st u h = let p = number_same b u in (h.0 ∙ p, subst HasAddress p h.1)
+
+    seen_stands : (s : Seen) (st : State) → SeenUnmarked s → SeenStands q r env s st → SeenStands q r env' s st
+    seen_stands s st u h = record {
+      variables = λ x. slot_stands x (s.variable x) st (u.variables x) (h.variables x);
+      table = ap meant.table (sym (unmarked_means s.table u.table)) ∙ h.table;
+      numbers = λ k b o a. let n = h.numbers k b o a in let p = load_same (s.numbers k) (u.numbers k) b o in
+          record { number = n.number ∙ ap state.number p; kind = subst (λ z. holds r.model k z ≡ true) p n.kind };
+      pointers = λ b o a. let n = h.pointers b o a in let p = load_same s.blocks u.blocks b o in let e = load_same s.offsets u.offsets b o in
+          record { pointer = n.pointer ∙ (λ i. state.pointer (p i) (e i)); address = subst HasAddress p n.address };
+    }
+
+pub still_stands : (q : Logic) (names : Spelled) (r : Reading) (env : Values) (w : World) → IsUnbound names r → Stands q r env w
+    → (env' : Values) → Later r.common.binder 0 env env' → Stands q r env' w
+still_stands q names r env w u h env' l = record {
+  here = seen r.here w.here u.here h.here;
+  pre = seen r.pre w.pre u.pre h.pre;
+  post = seen r.post w.post u.post h.post;
+  loop_entry = seen r.loop_entry w.loop_entry u.loop_entry h.loop_entry;
+  result = terms_stand q names r.common.binder u.binders env env' l r.common r.result w.result u.result h.result;
+  model = h.model;
+  structs = h.structs;
+  hidden = h.hidden;
+  long_bits = h.long_bits;
+}
+  where
+    seen : (s : Seen) (st : State) → SeenUnmarked s → SeenStands q r.common env s st → SeenStands q r.common env' s st
+    seen s st v k = seen_stands q names r.common.binder u.binders env env' l r.common s st v k

@@ -1,0 +1,87 @@
+-- What terms stand for under values of their names, and a reading of labelled states.
+use Rattle.std.specs.Prelude.{◌≡◌, ℕ, ℤ, pos, Bool, true, false, List, Option, Some, None}
+use Rattle.wp_base.specs.declared.kinds.Kind.{Kind}
+use Rattle.wp_base.specs.declared.kinds.CellKind.TheVariants as cell
+use Rattle.c_kinds.specs.declared.models.Machdep.{Machdep}
+use Rattle.c_kinds.specs.Models.{holds, long_bits}
+use Rattle.typed_prog.specs.declared.operators.Variable.{Variable}
+use Rattle.acsl_truth.specs.States as state
+use Rattle.acsl_truth.specs.States.{Value, State, World, is_negative}
+use Rattle.qed_terms.specs.Tree.{Tree as Term}
+use Rattle.qed_terms.specs.Memory as memory
+use Rattle.qed_terms.specs.Meaning as meant
+use Rattle.qed_terms.specs.Meaning.{Values, World as Logic, meaning}
+use Rattle.acsl_encode.specs.Readings.{Terms, integer, truth, address, variable, elements, nothing, Slot, whole, pointer, home, Seen, Common, Reading}
+
+-- ---- values
+
+-- Names have values, and recursive logic functions.
+abbrev pub number_in : Logic → Values → Term → ℤ
+number_in q env t = meant.value q env t
+
+abbrev pub is_so_in : Logic → Values → Term → Bool
+is_so_in q env f = meant.truth q env f
+
+abbrev pub load_in : Logic → Values → (memory : Term) → (block offset : ℤ) → ℤ
+load_in q env m b o = memory.load (meant.memory (meaning q env m)) b o
+
+-- the number is one of the kind, if there is one
+abbrev pub IsOfKind : Machdep → Option Kind → ℤ → Type 0
+IsOfKind m None z = Unit {0}
+IsOfKind m (Some k) z = holds m k z ≡ true
+
+-- a pointer never leads to a variable that has no address
+abbrev pub HasAddress : (block : ℤ) → Type 0
+HasAddress b = is_negative b ≡ false
+
+-- the terms stand for this value; nothing is said of what isn't in order
+abbrev pub Means : Logic → Common → Values → Terms → Value → Type 0
+Means q r env (integer k t) v = (v ≡ state.number (number_in q env t)) × IsOfKind r.model k (number_in q env t)
+Means q r env (truth f) v = v ≡ state.truth (is_so_in q env f)
+Means q r env (address b o) v = (v ≡ state.pointer (number_in q env b) (number_in q env o)) × HasAddress (number_in q env b)
+Means q r env (variable x) v = v ≡ state.pointer (r.hidden x) (pos 0)
+Means q r env (elements b o size low high) v =
+    v ≡ state.addresses (record {
+      block = number_in q env b;
+      offset = number_in q env o;
+      size = pos size;
+      low = number_in q env low;
+      high = number_in q env high;
+    })
+Means q r env nothing v = Unit {0}
+
+-- ---- states
+
+-- A variable that no pointer leads to has one cell, of a block without an address.
+abbrev pub SlotStands : Logic → Common → Values → Variable → Slot → State → Type 0
+SlotStands q r env x (whole k t) s = (s.home x ≡ r.hidden x) × Means q r env (integer (Some k) t) (s.cells (r.hidden x) (pos 0))
+SlotStands q r env x (pointer b o) s = (s.home x ≡ r.hidden x) × Means q r env (address b o) (s.cells (r.hidden x) (pos 0))
+SlotStands q r env x (home b) s = (s.home x ≡ number_in q env b) × HasAddress (number_in q env b)
+
+-- what is read of a cell of a kind is what its memory holds, and a number of the kind
+pub record NumbersStand (q : Logic) (r : Common) (env : Values) (k : Kind) (s : Seen) (st : State) (b o : ℤ) : Type 0 where
+  pub number : state.held (cell.Of k) st b o ≡ state.number (load_in q env (s.numbers k) b o)
+  pub kind : holds r.model k (load_in q env (s.numbers k) b o) ≡ true
+
+pub record PointersStand (q : Logic) (env : Values) (s : Seen) (st : State) (b o : ℤ) : Type 0 where
+  pub pointer : state.held cell.Ptr st b o ≡ state.pointer (load_in q env s.blocks b o) (load_in q env s.offsets b o)
+  pub address : HasAddress (load_in q env s.blocks b o)
+
+-- at each address
+pub record SeenStands (q : Logic) (r : Common) (env : Values) (s : Seen) (st : State) : Type 0 where
+  pub variables : (x : Variable) → SlotStands q r env x (s.variable x) st
+  pub table : meant.table (meaning q env s.table) ≡ st.blocks
+  pub numbers : (k : Kind) (b o : ℤ) → HasAddress b → NumbersStand q r env k s st b o
+  pub pointers : (b o : ℤ) → HasAddress b → PointersStand q env s st b o
+
+-- under these values each term means what the state of its label holds
+pub record Stands (q : Logic) (r : Reading) (env : Values) (w : World) : Type 0 where
+  pub here : SeenStands q r.common env r.here w.here
+  pub pre : SeenStands q r.common env r.pre w.pre
+  pub post : SeenStands q r.common env r.post w.post
+  pub loop_entry : SeenStands q r.common env r.loop_entry w.loop_entry
+  pub result : Means q r.common env r.result w.result
+  pub model : r.common.model ≡ w.model
+  pub structs : (n : ℕ) → r.common.structs n ≡ w.structs n
+  pub hidden : (x : Variable) → is_negative (r.common.hidden x) ≡ true
+  pub long_bits : q.long_bits ≡ long_bits r.common.model

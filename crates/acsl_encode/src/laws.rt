@@ -1,0 +1,19 @@
+// What follows from the definitions.
+ghost use Rattle.acsl_encode.specs.Binders.{BindersDiffer};
+ghost use Rattle.acsl_encode.specs.Laws.{FormulasMean};
+ghost use Rattle.acsl_encode.specs.WellFormed.{FormulasFit};
+
+/// Each binder of a clause has a name of its own.
+pub fn binders_differ()
+    ensures { BindersDiffer }
+{}
+
+/// Formulas are true exactly where their annotations hold, and terms mean what theirs do.
+pub fn formulas_mean()
+    ensures { FormulasMean }
+{}
+
+/// Formulas and terms are well formed where those of the reading are.
+pub fn formulas_fit()
+    ensures { FormulasFit }
+{}

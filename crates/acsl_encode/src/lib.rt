@@ -1,0 +1,6 @@
+//! Floor 5, goals: formulas of annotations, and that they mean the annotations.
+#![tactic(auto)]
+
+mod laws;
+
+pub use laws::{binders_differ, formulas_fit, formulas_mean};

@@ -1,6 +1,6 @@
 -- The terms of an annotation mean what the annotation means, node by node.
-use Rattle.std.proofs.Common.{◌≡◌, ℕ, suc, ◌+◌, Bool, true, false, List, [], ◌∷◌, refl, sym, ap, ◌∙◌, subst, arith}
-use Rattle.std.specs.Prelude.{ℤ, ◌≤ℤ◌, Option}
+use Rattle.std.proofs.Common.{◌≡◌, ℕ, suc, ◌+◌, Bool, List, refl, subst, arith}
+use Rattle.std.specs.Prelude.{ℤ, Option, Some, None}
 use Rattle.c_kinds.specs.declared.models.Machdep.{Machdep}
 use Rattle.acsl_trees.specs.declared.heads.Label.{Label}
 use Rattle.acsl_trees.specs.declared.heads.Range.{Range}
@@ -11,15 +11,17 @@ use Rattle.acsl_truth.specs.States as state
 use Rattle.acsl_truth.specs.States.{Value, World, number, is_true}
 use Rattle.acsl_truth.specs.Truth as truth
 use Rattle.acsl_truth.specs.Truth.{heads_of, least, greatest}
-use Rattle.qed_terms.specs.Meaning.{Values, World as Logic, with_int}
-use Rattle.acsl_encode.specs.Readings.{Terms}
+use Rattle.qed_terms.specs.Meaning.{Values, World as Logic}
+use Rattle.acsl_encode.specs.Readings.{Called, Terms}
 use Rattle.acsl_encode.specs.Encode as encode
 use Rattle.acsl_encode.specs.Encode.{encoded, all_encoded, binders, all_binders, as_formula, ends_of, kind_of, terms_at}
-use Rattle.acsl_encode.specs.Meaning.{Means}
+use Rattle.acsl_encode.specs.Meaning.{Holds, Means, Stands}
 use Rattle.acsl_encode.specs.Binders.{Later}
-use Rattle.acsl_encode.proofs.Operands.{Holds, IsTruth, as_truth, AllMean, kid_means, last_means}
+use Rattle.acsl_encode.proofs.Operands.{as_truth, AllMean, kid_means, last_means}
 use Rattle.acsl_encode.proofs.Nodes.{applied_means, chain_means}
 use Rattle.acsl_encode.proofs.Around.{Around, later_same, behind, at_values, under_label, under_let, under_binder}
+use Rattle.acsl_encode.proofs.Fitted.{AllFit, kid_fits, trees_fit}
+use Rattle.acsl_encode.proofs.Calling.{call_means, shared}
 use Rattle.acsl_encode.proofs.Ranging.{Reach, Body, ends_mean, every_means, some_means, inside_kind}
 
 module _ (q : Logic) (m : truth.Calls) where
@@ -41,6 +43,21 @@ module _ (q : Logic) (m : truth.Calls) where
   abbrev pub AllMeant : Trees → Type 0
   AllMeant ts = (c : Around q m) → AllMean q c.r.common c.env (all_terms c ts) (all_meant c ts)
 
+  all_fit : (c : Around q m) (ks : Trees) → AllFit (all_terms c ks)
+  all_fit c ks = trees_fit ks c.r c.ns c.i c.d c.good c.names_fit
+
+  call_meant : (f : ℕ) (ks : Trees) → AllMeant ks → Meant (node (hd.Call f) ks)
+  call_meant f ks h c = by (c.r.called f) refl
+    where
+      stands : Stands q c.r c.env c.w
+      stands = c.stands c.env (later_same c.r.common.binder c.i c.env)
+
+      by : (o : Option Called) → c.r.called f ≡ o → Means q c.r.common c.env (encode.called c.r o (all_terms c ks)) (m f (all_meant c ks) c.w)
+      by None e = tt
+      by (Some called) e =
+          call_means q c.env c.r c.w stands c.good m f called (all_terms c ks) (all_meant c ks) (h c) (all_fit c ks)
+          (λ args ms gs a b g. c.calls f called e (all_meant c ks) c.w args ms gs (shared q c.env c.r c.w stands c.good) a b g)
+
   label_meant : (l : Label) (ks : Trees) → AllMeant ks → Meant (node (hd.At l) ks)
   label_meant l ks h c = kid_means q c.r.common c.env (all_terms (under_label q m c l) ks) (all_meant (under_label q m c l) ks) 0 (h (under_label q m c l))
 
@@ -48,7 +65,7 @@ module _ (q : Logic) (m : truth.Calls) where
   let_meant ks h c =
       let first : (env' : Values) → Later c.r.common.binder c.i c.env env' → Means q c.r.common env' (terms_at (all_terms c ks) 0) (truth.first (all_meant c ks))
           = λ env' l. kid_means q c.r.common env' (all_terms c ks) (all_meant c ks) 0 (h (at_values q m c env' l)) in
-      let inside = under_let q m c (terms_at (all_terms c ks) 0) (truth.first (all_meant c ks)) first in
+      let inside = under_let q m c (terms_at (all_terms c ks) 0) (truth.first (all_meant c ks)) (kid_fits (all_terms c ks) 0 (all_fit c ks)) first in
       last_means q c.r.common c.env (all_terms inside ks) (all_meant inside ks) (h inside)
 
   -- ---- quantifiers
@@ -112,7 +129,7 @@ module _ (q : Logic) (m : truth.Calls) where
   mutual
     pub same_meaning : (t : Tree) → Meant t
     same_meaning (node (hd.Name x) ks) c = c.fits c.env (later_same c.r.common.binder c.i c.env) x
-    same_meaning (node (hd.Call f) ks) c = tt
+    same_meaning (node (hd.Call f) ks) c = call_meant f ks (same_meanings ks) c
     same_meaning (node (hd.At l) ks) c = label_meant l ks (same_meanings ks) c
     same_meaning (node hd.Let ks) c = let_meant ks (same_meanings ks) c
     same_meaning (node (hd.Every g) ks) c = every_meant g ks (same_meanings ks) c

@@ -1,11 +1,12 @@
 -- Where a tree stands: what stands for names and states there, whatever binders come later.
-use Rattle.std.proofs.Common.{◌≡◌, ℕ, suc, ◌+◌, ◌==◌, ◌≤◌, Bool, true, false, cond, List, refl, sym, ap, ◌∙◌, subst, arith, ⊎_elim}
-use Rattle.std.specs.Prelude.{ℤ, pos, if◌then◌else◌, Option}
+use Rattle.std.proofs.Common.{◌≡◌, ℕ, suc, ◌+◌, ◌==◌, Bool, true, false, cond, List, refl, sym, ap, ◌∙◌, subst, arith, ⊎_elim}
+use Rattle.std.specs.Prelude.{ℤ, if◌then◌else◌, Option}
 use Rattle.std.specs.Str.{bytes_eq}
 use Rattle.std.proofs.lemmas.Bool.{cases_Bool}
 use Rattle.std.proofs.lemmas.Slice.Eq.{bytes_eq-Decides}
 use Rattle.wp_base.specs.declared.kinds.Kind.{Kind}
 use Rattle.acsl_trees.specs.declared.heads.Label.{Label}
+use Rattle.acsl_trees.specs.declared.heads.Label.TheVariants as label
 use Rattle.acsl_truth.specs.States as state
 use Rattle.acsl_truth.specs.States.{Value, World, number}
 use Rattle.acsl_truth.specs.Truth as truth
@@ -14,9 +15,13 @@ use Rattle.qed_terms.specs.Tree.{var}
 use Rattle.qed_terms.specs.Meaning.{Values, World as Logic, with_int}
 use Rattle.acsl_encode.specs.Readings.{Terms, integer, Reading, moved_to}
 use Rattle.acsl_encode.specs.Encode.{Names, with_name}
-use Rattle.acsl_encode.specs.Meaning.{Means, IsOfKind, Stands}
+use Rattle.acsl_encode.specs.Meaning.{Means, IsOfKind, AtHome, Stands}
 use Rattle.acsl_encode.specs.Binders.{Binders, Differ, Later}
+use Rattle.acsl_encode.specs.Calls.{CallsStand}
+use Rattle.acsl_encode.specs.WellFormed.{TermsFit, ReadingFits}
 use Rattle.acsl_encode.proofs.Heads.{at_label}
+use Rattle.acsl_encode.proofs.Fitted as fitted
+use Rattle.acsl_encode.proofs.Fitted.{NamesFit, moved_reading}
 
 -- ---- assignments
 
@@ -65,6 +70,9 @@ module _ (q : Logic) (m : truth.Calls) where
     pub i : ℕ
     pub d : ℕ
     pub differ : Differ r.common.binder
+    pub calls : CallsStand q.apps m r.common r.called
+    pub good : ReadingFits r
+    pub names_fit : NamesFit ns
     pub stands : (env' : Values) → Later r.common.binder i env env' → Stands q r env' w
     pub fits : (env' : Values) → Later r.common.binder i env env' → (x : ℕ) → Means q r.common env' (ns x) (values x)
 
@@ -94,14 +102,22 @@ module _ (q : Logic) (m : truth.Calls) where
     model = s.model;
     structs = s.structs;
     hidden = s.hidden;
+    homes = λ k. moved_homes k;
     long_bits = s.long_bits;
   }
+    where
+      moved_homes : (k : Label) → AtHome r.common (state.state_at k (state.moved_to l w))
+      moved_homes label.Here = s.homes l
+      moved_homes label.Pre = s.homes label.Pre
+      moved_homes label.Post = s.homes label.Post
+      moved_homes label.LoopEntry = s.homes label.LoopEntry
 
   abbrev pub under_label : Around → Label → Around
-  under_label c label = record c {
-    r = moved_to label c.r;
-    w = state.moved_to label c.w;
-    stands = λ env' l. moved_stands label c.r env' c.w (c.stands env' l);
+  under_label c k = record c {
+    r = moved_to k c.r;
+    w = state.moved_to k c.w;
+    stands = λ env' l. moved_stands k c.r env' c.w (c.stands env' l);
+    good = moved_reading k c.r c.good;
   }
 
   pub named_fits : (c : Around) (x : Terms) (v : Value) (env' : Values) → Means q c.r.common env' x v → ((y : ℕ) → Means q c.r.common env' (c.ns y) (c.values y))
@@ -113,13 +129,14 @@ module _ (q : Logic) (m : truth.Calls) where
       by false = fits y
 
   -- under a name for this
-  abbrev pub under_let : (c : Around) (x : Terms) (v : Value)
+  abbrev pub under_let : (c : Around) (x : Terms) (v : Value) → TermsFit x
       → ((env' : Values) → Later c.r.common.binder c.i c.env env' → Means q c.r.common env' x v) → Around
-  under_let c x v means = record c {
+  under_let c x v fit means = record c {
     ns = with_name c.d x c.ns;
     values = truth.with_name c.d v c.values;
     d = suc c.d;
     fits = λ env' l. named_fits c x v env' (means env' l) (c.fits env' l);
+    names_fit = fitted.named_fits c.d x c.ns fit c.names_fit;
   }
 
   -- ---- under a binder
@@ -151,4 +168,5 @@ module _ (q : Logic) (m : truth.Calls) where
       d = suc c.d;
       stands = λ env' l. c.stands env' (all_later env' l);
       fits = λ env' l. named_fits c (integer k (var (c.r.common.binder c.i))) (number z) env' (bound_means env' l) (c.fits env' (all_later env' l));
+      names_fit = fitted.named_fits c.d (integer k (var (c.r.common.binder c.i))) c.ns (c.good.binders c.i) c.names_fit;
     }

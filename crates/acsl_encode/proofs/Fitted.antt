@@ -1,7 +1,6 @@
 -- Formulas and terms of whole annotations are well formed.
-use Rattle.std.proofs.Common.{◌≡◌, ℕ, zero, suc, ◌+◌, ◌==◌, Bool, true, false, ◌&&◌, List, [], ◌∷◌, length, refl, sym, ap, ◌∙◌, subst}
-use Rattle.std.specs.Prelude.{ℤ, pos, ◌-◌, ◌+ℤ◌, Option, Some, None, if◌then◌else◌}
-use Rattle.typed_prog.specs.declared.operators.Comparison.TheVariants as cmp
+use Rattle.std.proofs.Common.{◌≡◌, ℕ, zero, suc, ◌+◌, ◌==◌, Bool, true, false, ◌&&◌, List, [], ◌∷◌, ◌++◌, length, refl, subst}
+use Rattle.std.specs.Prelude.{pos, ◌-◌, ◌+ℤ◌, Option, Some, None, if◌then◌else◌}
 use Rattle.typed_prog.specs.declared.operators.Arithmetic.TheVariants as ar
 use Rattle.c_kinds.specs.declared.models.Machdep.{Machdep}
 use Rattle.c_kinds.specs.Models.{low, high}
@@ -13,26 +12,33 @@ use Rattle.acsl_trees.specs.declared.heads.Head.{Head}
 use Rattle.acsl_trees.specs.declared.heads.Head.TheVariants as hd
 use Rattle.acsl_trees.specs.Tree.{Tree, Trees, node, stop, more}
 use Rattle.acsl_truth.specs.Truth.{heads_of}
-use Rattle.qed_terms.specs.Tree.{Tree as Term, num, var, and_of, or_of, imp_of, not_of}
+use Rattle.qed_terms.specs.Tree.{Tree as Term, trees_of, num, var, and_of, or_of, imp_of, not_of}
 use Rattle.qed_terms.specs.declared.head.TermOp.TheVariants as op
 use Rattle.qed_terms.specs.declared.head.Head.{Head as TermHead}
 use Rattle.qed_terms.specs.declared.head.Head.TheVariants as th
-use Rattle.qed_terms.specs.WellFormed.{fits, int, formula}
+use Rattle.qed_terms.specs.Names.{is_name}
+use Rattle.qed_terms.specs.WellFormed.{fits, all_fit, each, kid_count, int, formula, argument}
 use Rattle.acsl_encode.specs.Readings as reading
-use Rattle.acsl_encode.specs.Readings.{Terms, integer, nothing, Seen, Reading, seen_at, seen_in, moved_to}
+use Rattle.std.specs.Option.{option_map}
+use Rattle.wp_base.specs.declared.kinds.Kind.{Kind}
+use Rattle.wp_base.specs.declared.kinds.CellKind.{CellKind}
+use Rattle.wp_base.specs.declared.kinds.CellKind.TheVariants as cell
+use Rattle.c_kinds.specs.Conversions.{holds_all}
+use Rattle.typed_prog.specs.declared.operators.Variable.TheVariants as variables
+use Rattle.acsl_encode.specs.Readings.{Named, one, two, Global, integer_global, pointer_global, Called, Slot, Pointer, Terms, integer, nothing, Seen, Reading, seen_at, seen_in, moved_to}
 use Rattle.acsl_encode.specs.Encode as encode
-use Rattle.acsl_encode.specs.Encode.{Pointer, comparison, pointer_comparison, iff_of, op_one, op_two, as_integer, as_pointer, as_formula, terms_at, unbounded, with_one, with_two, all_of, linked, all_linked, in_chain, Ends, ends_of, low_end, high_end, kind_of, over, quantified, Names, with_name, encoded, all_encoded, binders, no_names, terms_of, body_of}
-use Rattle.acsl_encode.specs.WellFormed.{IsInt, IsFormula, TermsFit, SeenFits, ReadingFits, Fits, FormulasFit}
-use Rattle.acsl_encode.proofs.Operands.{Holds}
-use Rattle.acsl_encode.proofs.Fitting.{both, only, all_three, number_fits, two_fit, not_fits, comparison_fits, arithmetic_fits, pointers_fit, further_fits, moved_fits, difference_fits, AllFormulas, all_of_fits, PointerFits, integer_fits, formula_fits, pointer_fits, on_one, on_two, variable_fits, read_fits, converted_fits, either_fits}
+use Rattle.acsl_encode.specs.Encode.{put, all_put, comparison, pointer_comparison, iff_of, op_one, op_two, as_integer, as_pointer, as_formula, terms_at, unbounded, with_one, with_two, all_of, linked, all_linked, in_chain, Ends, ends_of, low_end, high_end, kind_of, over, quantified, Names, with_name, encoded, all_encoded, binders, no_names, terms_of, body_of}
+use Rattle.acsl_encode.specs.WellFormed.{IsInt, IsMemory, IsFormula, TermsFit, SlotFits, SeenFits, ReadingFits, FormulasFit}
+use Rattle.acsl_encode.specs.Meaning.{Holds}
+use Rattle.acsl_encode.proofs.Fitting.{only, all_three, number_fits, two_fit, not_fits, comparison_fits, arithmetic_fits, pointers_fit, further_fits, moved_fits, difference_fits, AllFormulas, all_of_fits, PointerFits, integer_fits, formula_fits, pointer_fits, on_one, on_two, variable_fits, read_fits, converted_fits, either_fits}
 
 -- ---- kids
 
-abbrev AllFit : List Terms → Type 0
+abbrev pub AllFit : List Terms → Type 0
 AllFit [] = Unit {0}
 AllFit (x ∷ xs) = TermsFit x × AllFit xs
 
-kid_fits : (xs : List Terms) (i : ℕ) → AllFit xs → TermsFit (terms_at xs i)
+pub kid_fits : (xs : List Terms) (i : ℕ) → AllFit xs → TermsFit (terms_at xs i)
 kid_fits [] i h = tt
 kid_fits (x ∷ xs) zero h = h.0
 kid_fits (x ∷ xs) (suc i) h = kid_fits xs i h.1
@@ -43,7 +49,7 @@ seen_fits label.Pre r h = h.pre
 seen_fits label.Post r h = h.post
 seen_fits label.LoopEntry r h = h.loop_entry
 
-moved_reading : (l : Label) (r : Reading) → ReadingFits r → ReadingFits (moved_to l r)
+pub moved_reading : (l : Label) (r : Reading) → ReadingFits r → ReadingFits (moved_to l r)
 moved_reading l r h = record {
   here = seen_fits l r h;
   pre = h.pre;
@@ -51,6 +57,7 @@ moved_reading l r h = record {
   loop_entry = h.loop_entry;
   result = h.result;
   binders = h.binders;
+  called = h.called;
 }
 
 -- ---- heads
@@ -129,6 +136,87 @@ module _ (r : Reading) (good : ReadingFits r) (xs : List Terms) (h : AllFit xs) 
   applied_fits hd.Separated = tt
   applied_fits (hd.Region c) = tt
 
+-- ---- calls
+
+abbrev IsGiven : Term → Type 0
+IsGiven t = fits argument t ≡ true
+
+abbrev AllGiven : List Term → Type 0
+AllGiven [] = Unit {0}
+AllGiven (t ∷ ts) = IsGiven t × AllGiven ts
+
+all_given_both : (ts us : List Term) → AllGiven ts → AllGiven us → AllGiven (ts ++ us)
+all_given_both [] us h k = k
+all_given_both (t ∷ ts) us h k = (h.0, all_given_both ts us h.1 k)
+
+put_given : (o o' : Option (List Term)) → Holds AllGiven o → Holds AllGiven o' → Holds AllGiven (put o o')
+put_given (Some ts) (Some us) h k = all_given_both ts us h k
+put_given (Some ts) None h k = tt
+put_given None o' h k = tt
+
+all_put_given : {X : Type 0} (f : X → Option (List Term)) (xs : List X) → ((x : X) → Holds AllGiven (f x)) → Holds AllGiven (all_put f xs)
+all_put_given f [] h = tt
+all_put_given f (x ∷ xs) h = put_given (f x) (all_put f xs) (h x) (all_put_given f xs h)
+
+one_given : {X : Type 0} (p : X → Type 0) (f : X → List Term) (o : Option X) → Holds p o → ((x : X) → p x → AllGiven (f x)) → Holds AllGiven (option_map f o)
+one_given p f (Some x) h made = made x h
+one_given p f None h made = tt
+
+argument_given : (p : Named) (x : Terms) → TermsFit x → Holds AllGiven (encode.argument p x)
+argument_given (one n) x h = one_given IsInt (λ u. u ∷ []) (as_integer x) (integer_fits x h) (λ t f. (f.argument, tt))
+argument_given (two b o) x h = one_given PointerFits encode.two_parts (as_pointer x) (pointer_fits x h) (λ p f. (f.0.argument, (f.1.argument, tt)))
+
+arguments_given : (ps : List Named) (xs : List Terms) → AllFit xs → Holds AllGiven (encode.arguments ps xs)
+arguments_given [] [] h = tt
+arguments_given [] (x ∷ xs) h = tt
+arguments_given (p ∷ ps) [] h = tt
+arguments_given (p ∷ ps) (x ∷ xs) h = put_given (encode.argument p x) (encode.arguments ps xs) (argument_given p x h.0) (arguments_given ps xs h.1)
+
+memory_given : (s : Seen) → SeenFits s → (k : CellKind) → Holds AllGiven (encode.memory_of s k)
+memory_given s h (cell.Of k) = one_given IsMemory (λ m. m ∷ []) (s.numbers k) (h.numbers k) (λ m f. (f.argument, tt))
+memory_given s h cell.Ptr = one_given (λ p. IsMemory p.block × IsMemory p.offset) encode.two_parts s.pointers h.pointers (λ p f. (f.0.argument, (f.1.argument, tt)))
+
+integer_given : (m : Machdep) (k : Kind) (s : Slot) → SlotFits s → Holds AllGiven (encode.integer_of m k s)
+integer_given m k (reading.whole l t) h = by (holds_all m k l)
+  where
+    by : (b : Bool) → Holds AllGiven (if b then Some (t ∷ []) else None)
+    by true = (h.argument, tt)
+    by false = tt
+integer_given m k (reading.pointer b o) h = tt
+integer_given m k (reading.home b) h = tt
+integer_given m k reading.absent h = tt
+
+pointer_given : (s : Slot) → SlotFits s → Holds AllGiven (encode.pointer_in s)
+pointer_given (reading.whole l t) h = tt
+pointer_given (reading.pointer b o) h = (h.0.argument, (h.1.argument, tt))
+pointer_given (reading.home b) h = tt
+pointer_given reading.absent h = tt
+
+global_given : (m : Machdep) (s : Seen) → SeenFits s → (g : Global) → Holds AllGiven (encode.global_of m s g)
+global_given m s h (integer_global n k x) = integer_given m k (s.variable (variables.Global n)) (h.variables (variables.Global n))
+global_given m s h (pointer_global n b o) = pointer_given (s.variable (variables.Global n)) (h.variables (variables.Global n))
+
+all_given_fit : (ts : List Term) → AllGiven ts → all_fit (each argument (kid_count (trees_of ts))) (trees_of ts) ≡ true
+all_given_fit [] h = refl
+all_given_fit (t ∷ ts) h = let rest = all_given_fit ts h.1 in λ i. h.0 i && rest i
+
+app_fits : (x : List ℕ) (ts : List Term) → is_name x ≡ true → AllGiven ts → IsInt (encode.app x ts)
+app_fits x ts n h = let a = all_given_fit ts h in record { int = λ i. (n i && true) && a i; argument = λ i. (n i && true) && a i }
+
+called_fits : (r : Reading) (f : Option Called) (xs : List Terms) → ReadingFits r → AllFit xs → Holds (λ c. is_name c.name ≡ true) f → TermsFit (encode.called r f xs)
+called_fits r None xs good h n = tt
+called_fits r (Some c) xs good h n =
+    on_one AllGiven (λ ts. unbounded (encode.app c.name ts)) (encode.all_given r c xs)
+    (put_given (encode.arguments c.params xs) _ (arguments_given c.params xs h)
+      (put_given (all_put (encode.memory_of r.here) c.memories) (all_put (encode.global_of r.common.model r.here) c.globals)
+        (all_put_given (encode.memory_of r.here) c.memories (memory_given r.here good.here))
+        (all_put_given (encode.global_of r.common.model r.here) c.globals (global_given r.common.model r.here good.here))))
+    (λ ts. app_fits c.name ts n)
+
+if_there : {X : Type 0} (p : X → Type 0) (o : Option X) → ((x : X) → o ≡ Some x → p x) → Holds p o
+if_there p (Some x) h = h x refl
+if_there p None h = tt
+
 -- ---- chains
 
 both_there : (o : Option Term) (os : Option (List Term)) → Holds IsFormula o → Holds AllFormulas os → Holds AllFormulas (encode.both o os)
@@ -198,17 +286,17 @@ exists_fits x n e f h k = λ i. named _ n.int i && all_three (fits int e.low) (f
 
 -- ---- trees
 
-abbrev NamesFit : Names → Type 0
+abbrev pub NamesFit : Names → Type 0
 NamesFit ns = (x : ℕ) → TermsFit (ns x)
 
-named_fits : (d : ℕ) (t : Terms) (ns : Names) → TermsFit t → NamesFit ns → NamesFit (with_name d t ns)
+pub named_fits : (d : ℕ) (t : Terms) (ns : Names) → TermsFit t → NamesFit ns → NamesFit (with_name d t ns)
 named_fits d t ns h k y = by (y == d)
   where
     by : (b : Bool) → TermsFit (if b then t else ns y)
     by true = h
     by false = k y
 
-abbrev KidsFit : Trees → Type 0
+abbrev pub KidsFit : Trees → Type 0
 KidsFit ks = (r : Reading) (ns : Names) (i d : ℕ) → ReadingFits r → NamesFit ns → AllFit (all_encoded r ns i d ks)
 
 let_fits : (ks : Trees) → KidsFit ks → (r : Reading) (ns : Names) (i d : ℕ) → ReadingFits r → NamesFit ns → TermsFit (encoded r ns i d (node hd.Let ks))
@@ -226,9 +314,11 @@ body_fits g ks h r ns i d good k =
     formula_fits (encode.last_of xs) (kid_fits xs (length xs - 1) (h r inside (suc i) (suc d) good (named_fits d (integer (kind_of g) (var (r.common.binder i))) ns (good.binders i) k)))
 
 mutual
-  tree_fits : (t : Tree) (r : Reading) (ns : Names) (i d : ℕ) → ReadingFits r → NamesFit ns → TermsFit (encoded r ns i d t)
+  pub tree_fits : (t : Tree) (r : Reading) (ns : Names) (i d : ℕ) → ReadingFits r → NamesFit ns → TermsFit (encoded r ns i d t)
   tree_fits (node (hd.Name x) ks) r ns i d good k = k x
-  tree_fits (node (hd.Call f) ks) r ns i d good k = tt
+  tree_fits (node (hd.Call f) ks) r ns i d good k =
+      called_fits r (r.called f) (all_encoded r ns i d ks) good (trees_fit ks r ns i d good k)
+      (if_there (λ c. is_name c.name ≡ true) (r.called f) (good.called f))
   tree_fits (node (hd.At l) ks) r ns i d good k =
       kid_fits (all_encoded (moved_to l r) ns i d ks) 0 (trees_fit ks (moved_to l r) ns i d (moved_reading l r good) k)
   tree_fits (node hd.Let ks) r ns i d good k = let_fits ks (trees_fit ks) r ns i d good k
@@ -243,7 +333,7 @@ mutual
       (chain_fits (heads_of ks) (all_encoded r ns i d ks) (trees_fit ks r ns i d good k)) all_of_fits
   tree_fits (node head ks) r ns i d good k = applied_fits r good (all_encoded r ns i d ks) (trees_fit ks r ns i d good k) head
 
-  trees_fit : (ts : Trees) → KidsFit ts
+  pub trees_fit : (ts : Trees) → KidsFit ts
   trees_fit stop r ns i d good k = tt
   trees_fit (more t ts) r ns i d good k = (tree_fits t r ns i d good k, trees_fit ts r ns (i + binders t) d good k)
 

@@ -1,6 +1,6 @@
 -- Nodes are well formed where their kids are.
-use Rattle.std.proofs.Common.{◌≡◌, ℕ, zero, suc, ◌==◌, Bool, true, false, ◌&&◌, cond, List, [], ◌∷◌, length, refl, sym, ap, ◌∙◌}
-use Rattle.std.specs.Prelude.{ℤ, pos, ◌-◌, Option, Some, None, if◌then◌else◌}
+use Rattle.std.proofs.Common.{◌≡◌, ℕ, zero, suc, ◌==◌, Bool, true, false, ◌&&◌, List, [], ◌∷◌, refl}
+use Rattle.std.specs.Prelude.{ℤ, pos, Option, Some, None, if◌then◌else◌}
 use Rattle.wp_base.specs.declared.kinds.Kind.{Kind}
 use Rattle.wp_base.specs.declared.kinds.Kind.TheVariants as kind
 use Rattle.c_kinds.specs.declared.models.Machdep.{Machdep}
@@ -12,20 +12,15 @@ use Rattle.typed_prog.specs.declared.operators.Comparison.{Comparison}
 use Rattle.typed_prog.specs.declared.operators.Comparison.TheVariants as cmp
 use Rattle.acsl_trees.specs.declared.heads.Content.{Content}
 use Rattle.acsl_trees.specs.declared.heads.Content.TheVariants as content
-use Rattle.acsl_trees.specs.declared.heads.Label.{Label}
-use Rattle.acsl_trees.specs.declared.heads.Label.TheVariants as label
-use Rattle.acsl_trees.specs.declared.heads.Head.{Head}
-use Rattle.acsl_trees.specs.declared.heads.Head.TheVariants as hd
-use Rattle.qed_terms.specs.declared.head.TermOp.{TermOp}
 use Rattle.qed_terms.specs.declared.head.TermOp.TheVariants as op
-use Rattle.qed_terms.specs.Tree.{Tree as Term, Trees, trees_of, num, ite, not_of, and_of, or_of, imp_of}
-use Rattle.qed_terms.specs.WellFormed.{fits, all_fit, each, kid_count, int, mem, formula, argument}
+use Rattle.qed_terms.specs.Tree.{Tree as Term, trees_of, num, ite, not_of, imp_of}
+use Rattle.qed_terms.specs.WellFormed.{fits, all_fit, each, kid_count, int, mem, formula}
 use Rattle.acsl_encode.specs.Readings as reading
-use Rattle.acsl_encode.specs.Readings.{Terms, integer, address, variable, elements, nothing, Slot, whole, pointer, home, Seen, Reading, seen_at, seen_in}
+use Rattle.acsl_encode.specs.Readings.{Pointer, at, Terms, integer, address, variable, elements, nothing, Slot, whole, pointer, home, absent, Seen, Reading, seen_at, seen_in}
 use Rattle.acsl_encode.specs.Encode as encode
-use Rattle.acsl_encode.specs.Encode.{Pointer, at, comparison, pointer_comparison, times, further, difference, wrapped, truth_term, op_of, op_one, op_two, load, iff_of, as_integer, as_pointer, as_formula, with_one, with_two, terms_at, all_of, linked, all_linked, in_chain}
-use Rattle.acsl_encode.specs.WellFormed.{IsInt, IsMemory, IsFormula, TermsFit, SlotFits, SeenFits, ReadingFits}
-use Rattle.acsl_encode.proofs.Operands.{Holds}
+use Rattle.acsl_encode.specs.Encode.{comparison, pointer_comparison, times, further, difference, wrapped, truth_term, op_of, op_one, op_two, load, iff_of, as_integer, as_pointer, as_formula, with_one, with_two, terms_at, all_of, linked, all_linked, in_chain}
+use Rattle.acsl_encode.specs.WellFormed.{IsInt, IsMemory, IsFormula, TermsFit, SlotFits, SeenFits}
+use Rattle.acsl_encode.specs.Meaning.{Holds}
 
 -- ---- terms and formulas
 
@@ -78,7 +73,7 @@ arithmetic_fits o t u h k = by o (both (fits int t) (fits int u) h.int k.int)
     by ar.Or e = record { int = e; argument = e }
 
 load_fits : (m b o : Term) → IsMemory m → IsInt b → IsInt o → IsInt (load m b o)
-load_fits m b o h k l = let e = all_three (fits mem m) (fits int b) (fits int o) h k.int l.int in record { int = e; argument = e }
+load_fits m b o h k l = let e = all_three (fits mem m) (fits int b) (fits int o) h.memory k.int l.int in record { int = e; argument = e }
 
 truth_fits : (f : Term) → IsFormula f → IsInt (truth_term f)
 truth_fits f h = ite_fits f (num (pos 1)) (num (pos 0)) h (number_fits (pos 1)) (number_fits (pos 0))
@@ -190,22 +185,29 @@ pub variable_fits : (x : Variable) (s : Slot) → SlotFits s → TermsFit (encod
 variable_fits x (whole k t) h = tt
 variable_fits x (pointer b o) h = tt
 variable_fits x (home b) h = (h, number_fits (pos 0))
+variable_fits x absent h = tt
 
 held_fits : (c : Content) (s : Slot) → SlotFits s → TermsFit (encode.held c s)
 held_fits (content.Integer k) (whole l t) h = h
 held_fits content.Pointer (pointer b o) h = h
 held_fits (content.Integer k) (pointer b o) h = tt
 held_fits (content.Integer k) (home b) h = tt
+held_fits (content.Integer k) absent h = tt
 held_fits content.Pointer (whole l t) h = tt
 held_fits content.Pointer (home b) h = tt
+held_fits content.Pointer absent h = tt
 held_fits (content.Struct n) (whole l t) h = tt
 held_fits (content.Struct n) (pointer b o) h = tt
 held_fits (content.Struct n) (home b) h = tt
+held_fits (content.Struct n) absent h = tt
 
 pub read_fits : (c : Content) (s : Seen) (x : Terms) → SeenFits s → TermsFit x → TermsFit (encode.read c s x)
-read_fits (content.Integer k) s (address b o) h e = load_fits (s.numbers k) b o (h.numbers k) e.0 e.1
+read_fits (content.Integer k) s (address b o) h e =
+    on_one IsMemory (λ m. integer (Some k) (load m b o)) (s.numbers k) (h.numbers k) (λ m f. load_fits m b o f e.0 e.1)
 read_fits (content.Integer k) s (variable x) h e = held_fits (content.Integer k) (s.variable x) (h.variables x)
-read_fits content.Pointer s (address b o) h e = (load_fits s.blocks b o h.blocks e.0 e.1, load_fits s.offsets b o h.offsets e.0 e.1)
+read_fits content.Pointer s (address b o) h e =
+    on_one (λ p. IsMemory p.block × IsMemory p.offset) (λ p. address (load p.block b o) (load p.offset b o)) s.pointers h.pointers
+    (λ p f. (load_fits p.block b o f.0 e.0 e.1, load_fits p.offset b o f.1 e.0 e.1))
 read_fits content.Pointer s (variable x) h e = held_fits content.Pointer (s.variable x) (h.variables x)
 read_fits (content.Struct n) s (address b o) h e = e
 read_fits (content.Integer k) s (integer l t) h e = tt

@@ -1,19 +1,15 @@
 -- Formulas and terms of whole annotations.
-use Rattle.std.proofs.Common.{◌≡◌, ℕ, Bool, List, [], refl, sym, ap, ◌∙◌, subst}
-use Rattle.std.specs.Prelude.{ℤ, pos, Option, Some}
-use Rattle.acsl_trees.specs.Tree.{Tree}
-use Rattle.acsl_expand.specs.Expansion.{Definition}
-use Rattle.acsl_truth.specs.States as state
-use Rattle.acsl_truth.specs.States.{Value, World, number_of}
+use Rattle.std.proofs.Common.{◌≡◌, [], sym, ap, ◌∙◌, subst}
+use Rattle.std.specs.Prelude.{Option, Some}
+use Rattle.acsl_truth.specs.States.{Value, number_of}
 use Rattle.acsl_truth.specs.Truth.{calls_of, named, value}
-use Rattle.qed_terms.specs.Meaning.{Values, World as Logic}
 use Rattle.acsl_encode.specs.Readings.{Reading}
 use Rattle.acsl_encode.specs.Encode.{no_names, terms_of, as_integer, as_formula, as_pointer}
-use Rattle.acsl_encode.specs.Meaning.{Means, Stands}
-use Rattle.acsl_encode.specs.Binders.{Spelled, numbered, Differ}
-use Rattle.acsl_encode.specs.Laws.{IsUnbound, MeansTheSame, FormulasMean}
-use Rattle.acsl_encode.proofs.Operands.{Holds, IsNumber, IsTruth, IsPointer, as_number, as_truth, as_address}
-use Rattle.acsl_encode.proofs.Around.{Around, later_same}
+use Rattle.acsl_encode.specs.Meaning.{Holds, Means}
+use Rattle.acsl_encode.specs.Binders.{Spelled, Differ}
+use Rattle.acsl_encode.specs.Laws.{IsUnbound, FormulasMean}
+use Rattle.acsl_encode.proofs.Operands.{IsNumber, IsTruth, IsPointer, as_number, as_truth, as_address}
+use Rattle.acsl_encode.proofs.Around.{Around}
 use Rattle.acsl_encode.proofs.Naming.{binders_differ}
 use Rattle.acsl_encode.proofs.Unbound.{still_stands}
 use Rattle.acsl_encode.proofs.Annotated.{same_meaning}
@@ -25,7 +21,7 @@ names_differ : (names : Spelled) (r : Reading) → IsUnbound names r → Differ 
 names_differ names r u i j e = binders_differ names u.spelled i j (sym (u.binders i) ∙ e ∙ u.binders j)
 
 pub formulas_mean : FormulasMean
-formulas_mean q names r ds env w t u stands =
+formulas_mean q names r ds env w t u good calls stands =
     record {
       formula = λ f e. sym (there (IsTruth q r.common env v) (as_formula (terms_of r t)) f (as_truth q r.common env (terms_of r t) v means) e);
       number = λ n e. sym (ap number_of (there (IsNumber q r.common env v) (as_integer (terms_of r t)) n (as_number q r.common env (terms_of r t) v means) e));
@@ -45,6 +41,9 @@ formulas_mean q names r ds env w t u stands =
       i = 0;
       d = 0;
       differ = names_differ names r u;
+      calls = calls;
+      good = good;
+      names_fit = λ x. tt;
       stands = still_stands q names r env w u stands;
       fits = λ env' l x. tt;
     }

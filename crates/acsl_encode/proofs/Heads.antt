@@ -1,36 +1,30 @@
 -- Nodes that bind no name, stand under no label and call nothing: what is made of their kids' terms stands for what is made of their values.
-use Rattle.std.proofs.Common.{◌≡◌, ℕ, zero, suc, Bool, true, false, not, ◌&&◌, ◌||◌, cond, List, [], ◌∷◌, refl, sym, ap, ◌∙◌, subst}
-use Rattle.std.specs.Prelude.{ℤ, pos, Option, Some, None, if◌then◌else◌}
+use Rattle.std.proofs.Common.{◌≡◌, Bool, true, false, cond, refl, sym, ap, ◌∙◌, subst}
+use Rattle.std.specs.Prelude.{ℤ, pos, Some, None, if◌then◌else◌}
 use Rattle.wp_base.specs.declared.kinds.Kind.{Kind}
 use Rattle.wp_base.specs.declared.kinds.Kind.TheVariants as kind
 use Rattle.wp_base.specs.declared.kinds.CellKind.TheVariants as cell
 use Rattle.wp_base.specs.Kinds as base
-use Rattle.c_kinds.specs.declared.models.Machdep.{Machdep}
 use Rattle.c_kinds.specs.Models.{holds, convert, long_bits}
 use Rattle.c_kinds.specs.Conversions.{holds_all}
 use Rattle.c_kinds.proofs.Converting.{conversions_keep}
 use Rattle.typed_prog.specs.declared.operators.Variable.{Variable}
-use Rattle.typed_prog.specs.declared.operators.Comparison.{Comparison}
 use Rattle.acsl_trees.specs.declared.heads.Content.{Content}
 use Rattle.acsl_trees.specs.declared.heads.Content.TheVariants as content
 use Rattle.acsl_trees.specs.declared.heads.Label.{Label}
 use Rattle.acsl_trees.specs.declared.heads.Label.TheVariants as label
-use Rattle.acsl_trees.specs.declared.heads.Head.{Head}
-use Rattle.acsl_trees.specs.declared.heads.Head.TheVariants as hd
 use Rattle.acsl_truth.specs.States as state
 use Rattle.acsl_truth.specs.States.{Value, State, World, number_of, block_of, offset_of, is_true, is_negative, of_kind, state_at}
-use Rattle.acsl_truth.specs.Truth as truth
-use Rattle.acsl_truth.specs.Truth.{computed, compare, compare_pointers, value_at, implied, same}
-use Rattle.qed_terms.specs.Tree.{Tree as Term, ite, not_of, and_of, or_of, imp_of}
+use Rattle.qed_terms.specs.Tree.{Tree as Term, ite}
 use Rattle.qed_terms.specs.Meaning.{Values, World as Logic}
 use Rattle.acsl_encode.specs.Readings as reading
-use Rattle.acsl_encode.specs.Readings.{Terms, integer, address, variable, elements, nothing, Slot, whole, pointer, home, Seen, Reading, seen_at, seen_in}
+use Rattle.acsl_encode.specs.Readings.{Pointer, at, Terms, integer, address, variable, elements, nothing, Slot, whole, pointer, home, absent, Seen, Reading, seen_at, seen_in}
 use Rattle.acsl_encode.specs.Encode as encode
-use Rattle.acsl_encode.specs.Encode.{Pointer, at, comparison, pointer_comparison, wrapped, truth_term, op_of, op_two, as_integer, as_pointer, as_formula, unbounded, terms_at, iff_of}
-use Rattle.acsl_encode.specs.Meaning.{number_in, is_so_in, IsOfKind, HasAddress, Means, SlotStands, SeenStands, Stands}
-use Rattle.acsl_encode.proofs.Numbers.{neg_is, minus_zero, truth_is}
-use Rattle.acsl_encode.proofs.Operands.{Holds, IsNumber, IsTruth, IsPointer, as_number, as_truth, as_address, on_one, on_two, AllMean, kid_means}
-use Rattle.acsl_encode.proofs.Operations.{chosen_truth, chosen_number, chosen_pointer, chosen_address, and_true, or_false, truth_number_is, held_by_wider, hidden_held, comparison_is, pointers_is, computed_is, difference_is, moved_means, field_means}
+use Rattle.acsl_encode.specs.Encode.{comparison, pointer_comparison, wrapped, truth_term, op_of, op_two, load, as_integer, as_pointer, as_formula, unbounded, terms_at, iff_of}
+use Rattle.acsl_encode.specs.Meaning.{number_in, is_so_in, Means, SlotStands, SeenStands, Stands, NumbersHeld, PointersHeld, memory_in}
+use Rattle.acsl_encode.proofs.Numbers.{minus_zero, truth_is}
+use Rattle.acsl_encode.proofs.Operands.{IsNumber, IsTruth, on_one}
+use Rattle.acsl_encode.proofs.Operations.{chosen_truth, chosen_number, chosen_pointer, chosen_address, truth_number_is, held_by_wider, hidden_held}
 
 module _ (q : Logic) (r : Reading) (env : Values) where
   abbrev M : Terms → Value → Type 0
@@ -48,6 +42,7 @@ module _ (q : Logic) (r : Reading) (env : Values) where
   variable_means x (whole k t) st h = ap (λ b. state.pointer b (pos 0)) h.0
   variable_means x (pointer b o) st h = ap (λ b. state.pointer b (pos 0)) h.0
   variable_means x (home b) st h = (ap (λ b. state.pointer b (pos 0)) h.0, h.1)
+  variable_means x absent st h = tt
 
   held_means : (c : Content) (x : Variable) (s : Slot) (st : State) → is_negative (r.common.hidden x) ≡ true → SlotStands q r.common env x s st
       → M (encode.held c s) (state.read c st (state.pointer (r.common.hidden x) (pos 0)))
@@ -55,18 +50,25 @@ module _ (q : Logic) (r : Reading) (env : Values) where
   held_means content.Pointer x (pointer b o) st e h = (hidden_held cell.Ptr st (r.common.hidden x) (pos 0) e ∙ ap (of_kind cell.Ptr) h.1.0, h.1.1)
   held_means (content.Integer k) x (pointer b o) st e h = tt
   held_means (content.Integer k) x (home b) st e h = tt
+  held_means (content.Integer k) x absent st e h = tt
   held_means content.Pointer x (whole l t) st e h = tt
   held_means content.Pointer x (home b) st e h = tt
+  held_means content.Pointer x absent st e h = tt
   held_means (content.Struct n) x (whole l t) st e h = tt
   held_means (content.Struct n) x (pointer b o) st e h = tt
   held_means (content.Struct n) x (home b) st e h = tt
+  held_means (content.Struct n) x absent st e h = tt
 
   pub read_means : (c : Content) (s : Seen) (st : State) (x : Terms) (v : Value) → ((x : Variable) → is_negative (r.common.hidden x) ≡ true) → SeenStands q r.common env s st
       → M x v → M (encode.read c s x) (state.read c st v)
   read_means (content.Integer k) s st (address b o) v e stands h =
-      let n = stands.numbers k (N b) (N o) h.1 in (ap (λ v. state.held (cell.Of k) st (block_of v) (offset_of v)) h.0 ∙ n.number, n.kind)
+      on_one q r.common env (λ t. NumbersHeld r.common.model k (memory_in q env t) st) (λ t. integer (Some k) (load t b o)) (state.read (content.Integer k) st v) (s.numbers k)
+      (stands.numbers k)
+      (λ t held. let n = held (N b) (N o) h.1 in (ap (λ v. state.held (cell.Of k) st (block_of v) (offset_of v)) h.0 ∙ n.number, n.kind))
   read_means content.Pointer s st (address b o) v e stands h =
-      let n = stands.pointers (N b) (N o) h.1 in (ap (λ v. state.held cell.Ptr st (block_of v) (offset_of v)) h.0 ∙ n.pointer, n.address)
+      on_one q r.common env (λ p. PointersHeld (memory_in q env p.block) (memory_in q env p.offset) st) (λ p. address (load p.block b o) (load p.offset b o))
+      (state.read content.Pointer st v) s.pointers stands.pointers
+      (λ p held. let n = held (N b) (N o) h.1 in (ap (λ v. state.held cell.Ptr st (block_of v) (offset_of v)) h.0 ∙ n.pointer, n.address))
   read_means (content.Struct n) s st (address b o) v e stands h = h
   read_means (content.Integer k) s st (variable x) v e stands h =
       subst (λ v. M (encode.held (content.Integer k) (s.variable x)) (state.read (content.Integer k) st v)) (sym h)

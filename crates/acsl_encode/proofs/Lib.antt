@@ -11,3 +11,11 @@ pub mod Unbound
 pub mod Formulas
 pub mod Fitting
 pub mod Fitted
+pub mod Sorts
+pub mod Calling
+pub mod Bound
+pub mod Bodies
+pub mod Reading_bodies
+pub mod Steps
+pub mod Descending
+pub mod Settings

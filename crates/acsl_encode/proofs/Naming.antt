@@ -1,13 +1,13 @@
 -- Names of binders differ, and are no names without a `!`.
-use Rattle.std.proofs.Common.{◌≡◌, ◌⊎◌, ℕ, zero, suc, ◌+◌, ◌<◌, ◌≤◌, Bool, true, false, cond, List, [], ◌∷◌, ◌++◌, drop, map, refl, sym, ap, ◌∙◌, subst, inl, inr, ⊎_elim, arith}
-use Rattle.std.specs.Prelude.{get_or, if◌then◌else◌, slice_index_or, nat_lt, ◌-◌}
+use Rattle.std.proofs.Common.{◌≡◌, ◌⊎◌, ℕ, zero, suc, ◌+◌, ◌<◌, ◌≤◌, Bool, true, false, cond, List, [], ◌∷◌, ◌++◌, drop, map, refl, sym, ap, inl, inr, ⊎_elim, arith}
+use Rattle.std.specs.Prelude.{get_or, if◌then◌else◌, nat_lt, ◌-◌}
 use Rattle.std.specs.Str.{bytes_eq}
 use Rattle.std.proofs.lemmas.Bool.{cases_Bool}
 use Rattle.std.proofs.lemmas.Slice.Eq.{bytes_eq-Decides}
 use Rattle.std.specs.Int.Digits.{digits_of}
 use Rattle.std.proofs.lemmas.Int.Digits.{same_from_digits_of}
 use Rattle.qed_terms.specs.Fresh.{Lacks, numeral}
-use Rattle.acsl_encode.specs.Binders.{Spelled, spelled_at, bound_before, binder_name, numbered, mark, Differ, AllLack, BindersDiffer}
+use Rattle.acsl_encode.specs.Binders.{Spelled, spelled_at, bound_before, numbered, mark, AllLack, BindersDiffer}
 
 head_same : {a b : ℕ} {xs ys : List ℕ} → a ∷ xs ≡ b ∷ ys → a ≡ b
 head_same e = ap (λ l. get_or l 0 0) e

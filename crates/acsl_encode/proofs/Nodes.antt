@@ -1,8 +1,7 @@
 -- Nodes by their heads, and chains.
-use Rattle.std.proofs.Common.{◌≡◌, ℕ, zero, suc, Bool, true, false, not, ◌&&◌, ◌||◌, cond, List, [], ◌∷◌, map, refl, sym, ap, ◌∙◌, subst}
-use Rattle.std.specs.Prelude.{ℤ, pos, ◌-ℤ◌, neg_ℤ, Option, Some, None}
+use Rattle.std.proofs.Common.{◌≡◌, ℕ, Bool, true, false, not, ◌&&◌, ◌||◌, List, [], ◌∷◌, map, refl, sym, ap, ◌∙◌, subst}
+use Rattle.std.specs.Prelude.{pos, ◌-ℤ◌, neg_ℤ, Option, Some, None}
 use Rattle.c_kinds.specs.Models.{convert}
-use Rattle.typed_prog.specs.declared.operators.Comparison.{Comparison}
 use Rattle.acsl_trees.specs.declared.heads.Label.{Label}
 use Rattle.acsl_trees.specs.declared.heads.Head.{Head}
 use Rattle.acsl_trees.specs.declared.heads.Head.TheVariants as hd
@@ -15,12 +14,12 @@ use Rattle.qed_terms.specs.Operators.{turned_bits, quotient}
 use Rattle.qed_terms.specs.Meaning.{Values, World as Logic, is_so, each_true, meanings}
 use Rattle.wp_base.specs.Blocks.{same_truth}
 use Rattle.acsl_encode.specs.Readings as reading
-use Rattle.acsl_encode.specs.Readings.{Terms, Reading, seen_in}
+use Rattle.acsl_encode.specs.Readings.{Pointer, Terms, Reading, seen_in}
 use Rattle.acsl_encode.specs.Encode as encode
-use Rattle.acsl_encode.specs.Encode.{Pointer, comparison, pointer_comparison, as_integer, as_pointer, as_formula, unbounded, terms_at, iff_of, linked, all_linked, in_chain, all_of}
-use Rattle.acsl_encode.specs.Meaning.{number_in, is_so_in, Means, Stands}
+use Rattle.acsl_encode.specs.Encode.{comparison, pointer_comparison, as_integer, as_pointer, as_formula, unbounded, terms_at, iff_of, linked, all_linked, in_chain, all_of}
+use Rattle.acsl_encode.specs.Meaning.{Holds, number_in, is_so_in, Means, Stands}
 use Rattle.acsl_encode.proofs.Numbers.{neg_is}
-use Rattle.acsl_encode.proofs.Operands.{Holds, IsNumber, IsTruth, IsPointer, as_number, as_truth, as_address, on_one, on_two, AllMean, kid_means}
+use Rattle.acsl_encode.proofs.Operands.{IsNumber, IsTruth, IsPointer, as_number, as_truth, as_address, on_one, on_two, AllMean, kid_means}
 use Rattle.acsl_encode.proofs.Operations.{and_true, or_false, comparison_is, pointers_is, computed_is, difference_is, moved_means, field_means}
 use Rattle.acsl_encode.proofs.Heads.{variable_means, read_means, converted_means, either_means, at_label}
 

@@ -1,10 +1,9 @@
 -- Operators of terms on numbers, in the words of annotations.
-use Rattle.std.proofs.Common.{◌≡◌, ℕ, zero, suc, ◌==◌, Bool, true, false, not, cond, refl, sym, ap, ◌∙◌, arith, ⊎_elim}
-use Rattle.std.specs.Prelude.{ℤ, pos, negsuc, ◌+ℤ◌, ◌-ℤ◌, ◌*ℤ◌, neg_ℤ, if◌then◌else◌}
-use Rattle.std.proofs.lemmas.Bool.{cases_Bool, eqb-true}
+use Rattle.std.proofs.Common.{◌≡◌, Bool, true, false, cond, refl, ap, arith}
+use Rattle.std.specs.Prelude.{ℤ, pos, negsuc, ◌+ℤ◌, ◌-ℤ◌, ◌*ℤ◌, neg_ℤ}
 use Rattle.std.proofs.lemmas.Int.{ints}
 use Rattle.std.proofs.Math.IntN.{*ℤ-one, one}
-use Rattle.acsl_truth.specs.States.{number, number_of, truth, is_true}
+use Rattle.acsl_truth.specs.States.{number, truth, is_true}
 use Rattle.qed_terms.specs.Operators.{is_zero, is_equal, quotient}
 
 pub sum_two : (a b : ℤ) → a +ℤ (b +ℤ pos 0) ≡ a +ℤ b

@@ -1,21 +1,16 @@
 -- What operands are taken for, and what is there where each of them is.
-use Rattle.std.proofs.Common.{◌≡◌, ℕ, zero, suc, Bool, true, false, not, cond, List, [], ◌∷◌, length, refl, sym, ap, ◌∙◌, subst}
-use Rattle.std.specs.Prelude.{ℤ, pos, Option, Some, None, slice_index_or, ◌-◌}
+use Rattle.std.proofs.Common.{◌≡◌, ℕ, zero, suc, not, List, [], ◌∷◌, length, refl, sym, ap, ◌∙◌, subst}
+use Rattle.std.specs.Prelude.{Option, Some, None, ◌-◌}
 use Rattle.acsl_truth.specs.States as state
 use Rattle.acsl_truth.specs.States.{Value, number_of, is_true}
 use Rattle.acsl_truth.specs.Truth.{value_at, last_of}
 use Rattle.qed_terms.specs.Tree.{Tree as Term}
 use Rattle.qed_terms.specs.Meaning.{Values, World as Logic}
-use Rattle.acsl_encode.specs.Readings.{Terms, integer, truth, address, variable, elements, nothing, Common}
+use Rattle.acsl_encode.specs.Readings.{Pointer, Terms, integer, truth, address, variable, elements, nothing, Common}
 use Rattle.acsl_encode.specs.Encode as encode
-use Rattle.acsl_encode.specs.Encode.{as_integer, as_formula, as_pointer, Pointer, with_one, with_two, terms_at}
-use Rattle.acsl_encode.specs.Meaning.{number_in, is_so_in, Means, HasAddress}
+use Rattle.acsl_encode.specs.Encode.{as_integer, as_formula, as_pointer, with_one, with_two, terms_at}
+use Rattle.acsl_encode.specs.Meaning.{Holds, number_in, is_so_in, Means, HasAddress}
 use Rattle.acsl_encode.proofs.Numbers.{minus_zero, truth_is, is_true_truth}
-
--- of what is there
-abbrev pub Holds : {X : Type 0} → (X → Type 0) → Option X → Type 0
-Holds p (Some x) = p x
-Holds p None = Unit {0}
 
 module _ (q : Logic) (r : Common) (env : Values) where
   abbrev pub IsNumber : Value → Term → Type 0

@@ -1,30 +1,21 @@
 -- Operators on terms stand for the operators on what these mean.
-use Rattle.std.proofs.Common.{◌≡◌, ℕ, zero, suc, ◌==◌, Bool, true, false, not, ◌&&◌, ◌||◌, cond, List, [], ◌∷◌, refl, sym, ap, ◌∙◌, subst, ⊎_elim, arith}
-use Rattle.std.specs.Prelude.{ℤ, pos, negsuc, ◌+ℤ◌, ◌-ℤ◌, ◌*ℤ◌, neg_ℤ, int_le, Option, Some, None, if◌then◌else◌}
-use Rattle.std.proofs.lemmas.Bool.{cases_Bool, and_parts, eqb-true}
+use Rattle.std.proofs.Common.{◌≡◌, ℕ, zero, suc, ◌==◌, Bool, true, false, not, ◌&&◌, ◌||◌, cond, refl, sym, ap, ◌∙◌, arith}
+use Rattle.std.specs.Prelude.{ℤ, pos, negsuc, ◌+ℤ◌, ◌-ℤ◌, ◌*ℤ◌, int_le, if◌then◌else◌}
+use Rattle.std.proofs.lemmas.Bool.{and_parts, eqb-true}
 use Rattle.std.proofs.lemmas.Int.{ints}
 use Rattle.wp_base.specs.declared.kinds.Kind.{Kind}
-use Rattle.wp_base.specs.declared.kinds.Kind.TheVariants as kind
 use Rattle.wp_base.specs.declared.kinds.CellKind.{CellKind}
-use Rattle.wp_base.specs.declared.kinds.CellKind.TheVariants as cell
 use Rattle.wp_base.specs.Kinds as base
 use Rattle.wp_base.specs.Blocks.{is_cell}
 use Rattle.qed_terms.specs.declared.head.TermOp.TheVariants as op
 use Rattle.c_kinds.specs.declared.models.Machdep.{Machdep}
-use Rattle.c_kinds.specs.Models.{low, high, holds, convert, long_bits}
+use Rattle.c_kinds.specs.Models.{low, high, holds}
 use Rattle.c_kinds.specs.Conversions.{holds_all}
-use Rattle.c_kinds.proofs.Converting.{conversions_keep, le_test, test_le, both_true}
-use Rattle.typed_prog.specs.declared.operators.Variable.{Variable}
+use Rattle.c_kinds.proofs.Converting.{le_test, test_le, both_true}
 use Rattle.typed_prog.specs.declared.operators.Arithmetic.{Arithmetic}
 use Rattle.typed_prog.specs.declared.operators.Arithmetic.TheVariants as ar
 use Rattle.typed_prog.specs.declared.operators.Comparison.{Comparison}
 use Rattle.typed_prog.specs.declared.operators.Comparison.TheVariants as cmp
-use Rattle.acsl_trees.specs.declared.heads.Content.{Content}
-use Rattle.acsl_trees.specs.declared.heads.Content.TheVariants as content
-use Rattle.acsl_trees.specs.declared.heads.Label.{Label}
-use Rattle.acsl_trees.specs.declared.heads.Label.TheVariants as label
-use Rattle.acsl_trees.specs.declared.heads.Head.{Head}
-use Rattle.acsl_trees.specs.declared.heads.Head.TheVariants as hd
 use Rattle.acsl_truth.specs.States as state
 use Rattle.acsl_truth.specs.States.{Value, State, World, number_of, block_of, offset_of, is_true, is_negative, may_read, of_kind, state_at}
 use Rattle.acsl_truth.specs.Truth as truth
@@ -32,13 +23,12 @@ use Rattle.acsl_truth.specs.Truth.{computed, compare, compare_pointers, value_at
 use Rattle.qed_terms.specs.Operators.{is_zero, is_equal, quotient}
 use Rattle.qed_terms.specs.Tree.{Tree as Term, num}
 use Rattle.qed_terms.specs.Meaning.{Values, World as Logic}
-use Rattle.acsl_encode.specs.Readings as reading
-use Rattle.acsl_encode.specs.Readings.{Terms, integer, address, variable, elements, nothing, Slot, whole, pointer, home, Seen, Common, seen_at, seen_in}
+use Rattle.acsl_encode.specs.Readings.{Pointer, Terms, address, Common}
 use Rattle.acsl_encode.specs.Encode as encode
-use Rattle.acsl_encode.specs.Encode.{Pointer, at, comparison, pointer_comparison, times, further, difference, wrapped, truth_term, op_of, op_one, op_two, as_integer, as_pointer, as_formula}
-use Rattle.acsl_encode.specs.Meaning.{number_in, is_so_in, load_in, IsOfKind, HasAddress, Means, SlotStands, SeenStands, Stands}
-use Rattle.acsl_encode.proofs.Numbers.{sum_two, product_two, neg_is, back_is, one_times, none_more, by_one, minus_zero, truth_is, is_true_truth}
-use Rattle.acsl_encode.proofs.Operands.{Holds, IsNumber, IsTruth, IsPointer, as_number, as_truth, as_address, on_one, on_two, AllMean, kid_means}
+use Rattle.acsl_encode.specs.Encode.{comparison, pointer_comparison, times, further, difference, wrapped, truth_term, op_of, op_one, op_two, as_integer, as_pointer, as_formula}
+use Rattle.acsl_encode.specs.Meaning.{number_in, is_so_in, HasAddress, Means}
+use Rattle.acsl_encode.proofs.Numbers.{sum_two, product_two, back_is, one_times, none_more, by_one}
+use Rattle.acsl_encode.proofs.Operands.{IsNumber, IsPointer}
 
 -- ---- truths
 

@@ -1,5 +1,5 @@
 -- Quantifiers over the numbers between two ends.
-use Rattle.std.proofs.Common.{◌≡◌, ℕ, zero, suc, ◌<◌, Bool, true, false, ◌&&◌, ◌||◌, cond, List, refl, sym, ap, ◌∙◌, arith}
+use Rattle.std.proofs.Common.{◌≡◌, ℕ, zero, suc, Bool, true, false, ◌&&◌, ◌||◌, List, refl, sym, ap, ◌∙◌, arith}
 use Rattle.std.specs.Prelude.{ℤ, pos, negsuc, ◌+ℤ◌, ◌-ℤ◌, ◌≤ℤ◌, Option, Some, None}
 use Rattle.std.proofs.lemmas.Int.{ints}
 use Rattle.wp_base.specs.Blocks.{to_nat}
@@ -10,16 +10,14 @@ use Rattle.acsl_trees.specs.declared.heads.Range.{Range}
 use Rattle.acsl_trees.specs.declared.heads.Range.TheVariants as range
 use Rattle.acsl_truth.specs.States as state
 use Rattle.acsl_truth.specs.States.{Value, number_of, every_between, some_between}
-use Rattle.acsl_truth.specs.Truth as truth
 use Rattle.acsl_truth.specs.Truth.{least, greatest, beyond, short_of, value_at}
 use Rattle.qed_terms.specs.declared.head.Head.TheVariants as th
 use Rattle.qed_terms.specs.Tree.{Tree as Term}
 use Rattle.qed_terms.specs.Meaning.{Values, World as Logic, with_int, all_from, some_from}
-use Rattle.acsl_encode.specs.Readings as reading
 use Rattle.acsl_encode.specs.Readings.{Terms, Common}
 use Rattle.acsl_encode.specs.Encode.{Ends, ends_of, low_end, high_end, kind_of, quantified, as_integer, terms_at, on_two}
-use Rattle.acsl_encode.specs.Meaning.{number_in, is_so_in, Means, IsOfKind}
-use Rattle.acsl_encode.proofs.Operands.{Holds, IsNumber, as_number, AllMean, kid_means}
+use Rattle.acsl_encode.specs.Meaning.{Holds, number_in, is_so_in, Means, IsOfKind}
+use Rattle.acsl_encode.proofs.Operands.{IsNumber, as_number, AllMean, kid_means}
 use Rattle.acsl_encode.proofs.Numbers.{sum_two}
 
 -- ---- tests that agree where they are asked

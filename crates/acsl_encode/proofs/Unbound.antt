@@ -1,10 +1,7 @@
 -- Terms without names of binders mean the same whatever binders are, so a reading stands as before.
-use Rattle.std.proofs.Common.{◌≡◌, ℕ, Bool, true, false, refl, sym, ap, ◌∙◌, subst}
-use Rattle.std.specs.Prelude.{ℤ, pos, Option, Some, List}
-use Rattle.c_kinds.specs.Models.{holds}
+use Rattle.std.proofs.Common.{◌≡◌, ℕ, true, sym, ap, ◌∙◌, subst}
+use Rattle.std.specs.Prelude.{pos, Option, Some, None, List}
 use Rattle.qed_terms.specs.Fresh.{Lacks}
-use Rattle.std.proofs.lemmas.Bool.{false≢true}
-use Rattle.wp_base.specs.declared.kinds.Kind.{Kind}
 use Rattle.typed_prog.specs.declared.operators.Variable.{Variable}
 use Rattle.acsl_truth.specs.States as state
 use Rattle.acsl_truth.specs.States.{Value, State, World}
@@ -12,13 +9,12 @@ use Rattle.qed_terms.specs.declared.head.Sort.{Sort}
 use Rattle.qed_terms.specs.declared.head.Sort.TheVariants as sort
 use Rattle.qed_terms.specs.Tree.{Tree as Term}
 use Rattle.qed_terms.specs.Free.{is_free}
-use Rattle.qed_terms.specs.Memory as memory
 use Rattle.qed_terms.specs.Meaning as meant
 use Rattle.qed_terms.specs.Meaning.{Values, World as Logic, Whole, Cells, Blocks, value_of, meaning, whole, is_so}
 use Rattle.qed_terms.proofs.FreeNames.{meaning_of_free_names}
-use Rattle.acsl_encode.specs.Readings.{Terms, integer, truth, address, variable, elements, nothing, Slot, pointer, home, Seen, Common, Reading}
+use Rattle.acsl_encode.specs.Readings.{Terms, integer, truth, address, variable, elements, nothing, Slot, pointer, home, absent, Seen, Common, Reading}
 use Rattle.acsl_encode.specs.Readings as reading
-use Rattle.acsl_encode.specs.Meaning.{number_in, is_so_in, load_in, Means, IsOfKind, HasAddress, SlotStands, SeenStands, Stands}
+use Rattle.acsl_encode.specs.Meaning.{Holds, number_in, Means, IsOfKind, HasAddress, SlotStands, SeenStands, Stands, NumbersHeld, PointersHeld, memory_in}
 use Rattle.acsl_encode.specs.Binders.{Binders, Spelled, numbered, IsUnmarked, Later, mark}
 use Rattle.acsl_encode.specs.Laws.{TermsUnmarked, SlotUnmarked, SeenUnmarked, IsUnbound}
 use Rattle.acsl_encode.proofs.Naming.{has_mark}
@@ -35,8 +31,13 @@ module _ (q : Logic) (names : Spelled) (b : Binders) (is : (n : ℕ) → b n ≡
   number_same : (t : Term) → IsUnmarked t → number_in q env t ≡ number_in q env' t
   number_same t h = ap whole (unmarked_means t h)
 
-  load_same : (t : Term) → IsUnmarked t → (b o : ℤ) → load_in q env t b o ≡ load_in q env' t b o
-  load_same t h b o = ap (λ v. memory.load (meant.memory v) b o) (unmarked_means t h)
+  memory_same : (t : Term) → IsUnmarked t → memory_in q env t ≡ memory_in q env' t
+  memory_same t h = ap meant.memory (unmarked_means t h)
+
+  -- what stands there stands under the other values
+  still : {X : Type 0} (u p p' : X → Type 0) (o : Option X) → Holds u o → Holds p o → ((x : X) → u x → p x → p' x) → Holds p' o
+  still u p p' (Some x) h k made = made x h k
+  still u p p' None h k made = tt
 
   module _ (r : Common) where
     pub terms_stand : (x : Terms) (v : Value) → TermsUnmarked x → Means q r env x v → Means q r env' x v
@@ -53,15 +54,18 @@ module _ (q : Logic) (names : Spelled) (b : Binders) (is : (n : ℕ) → b n ≡
     slot_stands x (reading.whole k t) st u h = (h.0, terms_stand (integer (Some k) t) (st.cells (r.hidden x) (pos 0)) u h.1)
     slot_stands x (pointer b o) st u h = (h.0, terms_stand (address b o) (st.cells (r.hidden x) (pos 0)) u h.1)
     slot_stands x (home b) st u h = let p = number_same b u in (h.0 ∙ p, subst HasAddress p h.1)
+    slot_stands x absent st u h = tt
 
     seen_stands : (s : Seen) (st : State) → SeenUnmarked s → SeenStands q r env s st → SeenStands q r env' s st
     seen_stands s st u h = record {
       variables = λ x. slot_stands x (s.variable x) st (u.variables x) (h.variables x);
-      table = ap meant.table (sym (unmarked_means s.table u.table)) ∙ h.table;
-      numbers = λ k b o a. let n = h.numbers k b o a in let p = load_same (s.numbers k) (u.numbers k) b o in
-          record { number = n.number ∙ ap state.number p; kind = subst (λ z. holds r.model k z ≡ true) p n.kind };
-      pointers = λ b o a. let n = h.pointers b o a in let p = load_same s.blocks u.blocks b o in let e = load_same s.offsets u.offsets b o in
-          record { pointer = n.pointer ∙ (λ i. state.pointer (p i) (e i)); address = subst HasAddress p n.address };
+      table = still IsUnmarked (λ t. meant.table (meaning q env t) ≡ st.blocks) (λ t. meant.table (meaning q env' t) ≡ st.blocks) s.table u.table h.table
+          (λ t v k. ap meant.table (sym (unmarked_means t v)) ∙ k);
+      numbers = λ k. still IsUnmarked (λ t. NumbersHeld r.model k (memory_in q env t) st) (λ t. NumbersHeld r.model k (memory_in q env' t) st) (s.numbers k) (u.numbers k)
+          (h.numbers k) (λ t v held. subst (λ m. NumbersHeld r.model k m st) (memory_same t v) held);
+      pointers = still (λ p. IsUnmarked p.block × IsUnmarked p.offset) (λ p. PointersHeld (memory_in q env p.block) (memory_in q env p.offset) st)
+          (λ p. PointersHeld (memory_in q env' p.block) (memory_in q env' p.offset) st) s.pointers u.pointers h.pointers
+          (λ p v held. subst (λ m. PointersHeld (memory_in q env' p.block) m st) (memory_same p.offset v.1) (subst (λ m. PointersHeld m (memory_in q env p.offset) st) (memory_same p.block v.0) held));
     }
 
 pub still_stands : (q : Logic) (names : Spelled) (r : Reading) (env : Values) (w : World) → IsUnbound names r → Stands q r env w
@@ -75,6 +79,7 @@ still_stands q names r env w u h env' l = record {
   model = h.model;
   structs = h.structs;
   hidden = h.hidden;
+  homes = h.homes;
   long_bits = h.long_bits;
 }
   where

@@ -1,5 +1,5 @@
 -- Formulas of annotations, which are taken over as they stand (ACSL 2.2, 2.4.3, 2.7): nothing is folded, and nothing is checked.
-use Rattle.std.specs.Prelude.{ℕ, zero, suc, ◌+◌, ◌-◌, ◌==◌, Bool, true, false, if◌then◌else◌, ℤ, pos, ◌+ℤ◌, List, [], ◌∷◌, length, slice_index_or, Option, Some, None}
+use Rattle.std.specs.Prelude.{ℕ, zero, suc, ◌+◌, ◌-◌, ◌==◌, Bool, true, false, if◌then◌else◌, pos, ◌+ℤ◌, List, [], ◌∷◌, ◌++◌, length, slice_index_or, Option, Some, None}
 use Rattle.std.specs.Option.{option_map}
 use Rattle.wp_base.specs.declared.kinds.Kind.{Kind}
 use Rattle.wp_base.specs.declared.kinds.Kind.TheVariants as kind
@@ -9,6 +9,7 @@ use Rattle.c_kinds.specs.declared.models.Machdep.{Machdep}
 use Rattle.c_kinds.specs.Models.{low, high}
 use Rattle.c_kinds.specs.Conversions.{holds_all}
 use Rattle.typed_prog.specs.declared.operators.Variable.{Variable}
+use Rattle.typed_prog.specs.declared.operators.Variable.TheVariants as variables
 use Rattle.typed_prog.specs.declared.operators.Arithmetic.{Arithmetic}
 use Rattle.typed_prog.specs.declared.operators.Arithmetic.TheVariants as ar
 use Rattle.typed_prog.specs.declared.operators.Comparison.{Comparison}
@@ -25,10 +26,9 @@ use Rattle.qed_terms.specs.declared.head.Head.{Head as TermHead}
 use Rattle.qed_terms.specs.declared.head.Head.TheVariants as th
 use Rattle.qed_terms.specs.declared.head.TermOp.{TermOp}
 use Rattle.qed_terms.specs.declared.head.TermOp.TheVariants as op
-use Rattle.qed_terms.specs.declared.head.FormOp.TheVariants as form
 use Rattle.qed_terms.specs.Tree as tree
 use Rattle.qed_terms.specs.Tree.{Tree as Term, num, var, true_tree, at_most, less, equal, ite, not_of, and_of, or_of, imp_of}
-use Rattle.acsl_encode.specs.Readings.{Terms, integer, truth, address, variable, elements, nothing, Slot, whole, pointer, home, Seen, Reading, moved_to, seen_in}
+use Rattle.acsl_encode.specs.Readings.{Pointer, at, Named, one, two, Global, integer_global, pointer_global, Called, Terms, integer, truth, address, variable, nothing, Slot, whole, pointer, home, absent, Seen, Reading, moved_to, seen_in}
 
 -- ---- terms and formulas
 
@@ -77,14 +77,7 @@ op_of ar.And = op.BitAnd
 op_of ar.Xor = op.BitXor
 op_of ar.Or = op.BitOr
 
--- ---- a pointer is its block and its offset
-
-pub record Pointer : Type 0 where
-  pub block : Term
-  pub offset : Term
-
-abbrev pub at : (block offset : Term) → Pointer
-at b o = record { block = b; offset = o }
+-- ---- pointers
 
 abbrev pub same_pointer : Pointer → Pointer → Term
 same_pointer p q = and_of (equal p.block q.block ∷ equal p.offset q.offset ∷ [])
@@ -158,8 +151,10 @@ abbrev pub last_of : List Terms → Terms
 last_of xs = terms_at xs (length xs - 1)
 
 abbrev pub of_variable : Variable → Slot → Terms
+of_variable x (whole k t) = variable x
+of_variable x (pointer b o) = variable x
 of_variable x (home b) = address b (num (pos 0))
-of_variable x _ = variable x
+of_variable x absent = nothing
 
 abbrev pub held : Content → Slot → Terms
 held (content.Integer k) (whole l t) = integer (Some l) t
@@ -168,9 +163,9 @@ held _ _ = nothing
 
 -- a struct isn't a value
 abbrev pub read : Content → Seen → Terms → Terms
-read (content.Integer k) s (address b o) = integer (Some k) (load (s.numbers k) b o)
+read (content.Integer k) s (address b o) = with_one (λ m. integer (Some k) (load m b o)) (s.numbers k)
 read (content.Integer k) s (variable x) = held (content.Integer k) (s.variable x)
-read content.Pointer s (address b o) = address (load s.blocks b o) (load s.offsets b o)
+read content.Pointer s (address b o) = with_one (λ p. address (load p.block b o) (load p.offset b o)) s.pointers
 read content.Pointer s (variable x) = held content.Pointer (s.variable x)
 read (content.Struct n) s (address b o) = address b o
 read _ s _ = nothing
@@ -230,6 +225,57 @@ applied r h.Choose xs = with_one (either (second xs) (third xs)) (as_formula (fi
 applied r (h.Link c) xs = first xs
 applied r (h.LinkPointers c) xs = first xs
 applied r _ xs = nothing
+
+-- ---- calls: the arguments, the memories in the order of kinds, and the variables of the file
+
+-- nothing where one of them isn't there
+abbrev pub put : {X : Type 0} → Option (List X) → Option (List X) → Option (List X)
+put (Some xs) o = option_map (λ ys. xs ++ ys) o
+put None o = None
+
+abbrev pub all_put : {X Y : Type 0} → (X → Option (List Y)) → List X → Option (List Y)
+all_put f [] = Some []
+all_put f (x ∷ xs) = put (f x) (all_put f xs)
+
+abbrev pub two_parts : Pointer → List Term
+two_parts p = p.block ∷ p.offset ∷ []
+
+abbrev pub argument : Named → Terms → Option (List Term)
+argument (one x) t = option_map (λ u. u ∷ []) (as_integer t)
+argument (two b o) t = option_map two_parts (as_pointer t)
+
+-- one for each parameter
+abbrev pub arguments : List Named → List Terms → Option (List Term)
+arguments [] [] = Some []
+arguments [] (x ∷ xs) = None
+arguments (p ∷ ps) [] = None
+arguments (p ∷ ps) (x ∷ xs) = put (argument p x) (arguments ps xs)
+
+abbrev pub memory_of : Seen → CellKind → Option (List Term)
+memory_of s (cell.Of k) = option_map (λ m. m ∷ []) (s.numbers k)
+memory_of s cell.Ptr = option_map two_parts s.pointers
+
+abbrev pub integer_of : Machdep → Kind → Slot → Option (List Term)
+integer_of m k (whole l t) = if holds_all m k l then Some (t ∷ []) else None
+integer_of m k _ = None
+
+abbrev pub pointer_in : Slot → Option (List Term)
+pointer_in (pointer b o) = Some (b ∷ o ∷ [])
+pointer_in _ = None
+
+abbrev pub global_of : Machdep → Seen → Global → Option (List Term)
+global_of m s (integer_global n k x) = integer_of m k (s.variable (variables.Global n))
+global_of m s (pointer_global n b o) = pointer_in (s.variable (variables.Global n))
+
+abbrev pub all_given : Reading → Called → List Terms → Option (List Term)
+all_given r f xs = put (arguments f.params xs) (put (all_put (memory_of r.here) f.memories) (all_put (global_of r.common.model r.here) f.globals))
+
+abbrev pub app : (name : List ℕ) → List Term → Term
+app x ts = tree.node (th.App x) (tree.trees_of ts)
+
+abbrev pub called : Reading → Option Called → List Terms → Terms
+called r None xs = nothing
+called r (Some f) xs = with_one (λ ts. unbounded (app f.name ts)) (all_given r f xs)
 
 -- ---- chains: a first term, and links behind it
 
@@ -323,6 +369,7 @@ body_of kids r ns i d g = last_of (kids r (with_name d (integer (kind_of g) (var
 
 abbrev pub node_terms : Reading → Names → (next around : ℕ) → Head → List Head → Kids → Terms
 node_terms r ns i d (h.Name x) ls kids = ns x
+node_terms r ns i d (h.Call f) ls kids = called r (r.called f) (kids r ns i d)
 node_terms r ns i d (h.At l) ls kids = first (kids (moved_to l r) ns i d)
 node_terms r ns i d h.Let ls kids = last_of (kids r (with_name d (first (kids r ns i d)) ns) i (suc d))
 node_terms r ns i d (h.Every g) ls kids =

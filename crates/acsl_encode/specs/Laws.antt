@@ -9,9 +9,11 @@ use Rattle.acsl_truth.specs.States.{Value, World, number_of}
 use Rattle.acsl_truth.specs.Truth.{calls_of, named, holds, value}
 use Rattle.qed_terms.specs.Tree.{Tree as Term}
 use Rattle.qed_terms.specs.Meaning.{Values, World as Logic}
-use Rattle.acsl_encode.specs.Readings.{Terms, integer, truth, address, variable, elements, nothing, Slot, whole, pointer, home, Seen, Reading}
-use Rattle.acsl_encode.specs.Encode.{Pointer, term_of, formula_of, pointer_of}
-use Rattle.acsl_encode.specs.Meaning.{number_in, is_so_in, Stands}
+use Rattle.acsl_encode.specs.Readings.{Terms, integer, truth, address, variable, elements, nothing, Pointer, Slot, whole, pointer, home, absent, Seen, Reading}
+use Rattle.acsl_encode.specs.Encode.{term_of, formula_of, pointer_of}
+use Rattle.acsl_encode.specs.Meaning.{Holds, number_in, is_so_in, Stands}
+use Rattle.acsl_encode.specs.WellFormed.{ReadingFits}
+use Rattle.acsl_encode.specs.Calls.{CallsStand}
 use Rattle.acsl_encode.specs.Binders.{Spelled, numbered, AllLack, IsUnmarked}
 
 -- ---- readings without names of binders
@@ -28,13 +30,13 @@ abbrev pub SlotUnmarked : Slot → Type 0
 SlotUnmarked (whole k t) = IsUnmarked t
 SlotUnmarked (pointer b o) = IsUnmarked b × IsUnmarked o
 SlotUnmarked (home b) = IsUnmarked b
+SlotUnmarked absent = Unit {0}
 
 pub record SeenUnmarked (s : Seen) : Type 0 where
   pub variables : (x : Variable) → SlotUnmarked (s.variable x)
-  pub table : IsUnmarked s.table
-  pub numbers : (k : Kind) → IsUnmarked (s.numbers k)
-  pub blocks : IsUnmarked s.blocks
-  pub offsets : IsUnmarked s.offsets
+  pub table : Holds IsUnmarked s.table
+  pub numbers : (k : Kind) → Holds IsUnmarked (s.numbers k)
+  pub pointers : Holds (λ p. IsUnmarked p.block × IsUnmarked p.offset) s.pointers
 
 -- the binders of the clause are named, and the terms of the reading have no such names
 pub record IsUnbound (names : Spelled) (r : Reading) : Type 0 where
@@ -48,7 +50,8 @@ pub record IsUnbound (names : Spelled) (r : Reading) : Type 0 where
 
 -- ---- the laws
 
--- A formula is true exactly where the annotation holds, and a term means what the annotation's term does, where the reading stands for the states.
+-- A formula is true exactly where the annotation holds, and a term means what the annotation's term does, where the reading stands for the states, its
+-- terms are well formed, and logic functions have the values of their definitions.
 pub record MeansTheSame (q : Logic) (r : Reading) (ds : List Definition) (env : Values) (w : World) (t : Tree) : Type 0 where
   pub formula : (f : Term) → formula_of r t ≡ Some f → is_so_in q env f ≡ holds ds w t
   pub number : (u : Term) → term_of r t ≡ Some u → number_in q env u ≡ number_of (value (calls_of ds) (named []) 0 w t)
@@ -58,4 +61,4 @@ pub record MeansTheSame (q : Logic) (r : Reading) (ds : List Definition) (env : 
 abbrev pub FormulasMean : Type 0
 FormulasMean =
     (q : Logic) (names : Spelled) (r : Reading) (ds : List Definition) (env : Values) (w : World) (t : Tree)
-    → IsUnbound names r → Stands q r env w → MeansTheSame q r ds env w t
+    → IsUnbound names r → ReadingFits r → CallsStand q.apps (calls_of ds) r.common r.called → Stands q r env w → MeansTheSame q r ds env w t

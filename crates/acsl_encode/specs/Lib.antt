@@ -2,5 +2,8 @@ pub mod Readings
 pub mod Encode
 pub mod Meaning
 pub mod Binders
+pub mod Calls
 pub mod Laws
 pub mod WellFormed
+pub mod Setting
+pub mod Regular

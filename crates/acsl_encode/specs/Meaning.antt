@@ -1,17 +1,24 @@
 -- What terms stand for under values of their names, and a reading of labelled states.
-use Rattle.std.specs.Prelude.{◌≡◌, ℕ, ℤ, pos, Bool, true, false, List, Option, Some, None}
+use Rattle.std.specs.Prelude.{◌≡◌, ℕ, ℤ, pos, Bool, true, false, Option, Some, None}
 use Rattle.wp_base.specs.declared.kinds.Kind.{Kind}
 use Rattle.wp_base.specs.declared.kinds.CellKind.TheVariants as cell
 use Rattle.c_kinds.specs.declared.models.Machdep.{Machdep}
 use Rattle.c_kinds.specs.Models.{holds, long_bits}
 use Rattle.typed_prog.specs.declared.operators.Variable.{Variable}
 use Rattle.acsl_truth.specs.States as state
-use Rattle.acsl_truth.specs.States.{Value, State, World, is_negative}
+use Rattle.typed_prog.specs.declared.operators.Variable.TheVariants as variable_of
+use Rattle.acsl_trees.specs.declared.heads.Label.{Label}
+use Rattle.acsl_truth.specs.States.{Value, State, World, is_negative, state_at}
 use Rattle.qed_terms.specs.Tree.{Tree as Term}
-use Rattle.qed_terms.specs.Memory as memory
+use Rattle.qed_terms.specs.Memory.{Memory, load}
 use Rattle.qed_terms.specs.Meaning as meant
 use Rattle.qed_terms.specs.Meaning.{Values, World as Logic, meaning}
-use Rattle.acsl_encode.specs.Readings.{Terms, integer, truth, address, variable, elements, nothing, Slot, whole, pointer, home, Seen, Common, Reading}
+use Rattle.acsl_encode.specs.Readings.{Terms, integer, truth, address, variable, elements, nothing, Slot, whole, pointer, home, absent, Seen, Common, Reading}
+
+-- of what is there
+abbrev pub Holds : {X : Type 0} → (X → Type 0) → Option X → Type 0
+Holds p (Some x) = p x
+Holds p None = Unit {0}
 
 -- ---- values
 
@@ -21,9 +28,6 @@ number_in q env t = meant.value q env t
 
 abbrev pub is_so_in : Logic → Values → Term → Bool
 is_so_in q env f = meant.truth q env f
-
-abbrev pub load_in : Logic → Values → (memory : Term) → (block offset : ℤ) → ℤ
-load_in q env m b o = memory.load (meant.memory (meaning q env m)) b o
 
 -- the number is one of the kind, if there is one
 abbrev pub IsOfKind : Machdep → Option Kind → ℤ → Type 0
@@ -57,22 +61,36 @@ abbrev pub SlotStands : Logic → Common → Values → Variable → Slot → St
 SlotStands q r env x (whole k t) s = (s.home x ≡ r.hidden x) × Means q r env (integer (Some k) t) (s.cells (r.hidden x) (pos 0))
 SlotStands q r env x (pointer b o) s = (s.home x ≡ r.hidden x) × Means q r env (address b o) (s.cells (r.hidden x) (pos 0))
 SlotStands q r env x (home b) s = (s.home x ≡ number_in q env b) × HasAddress (number_in q env b)
+SlotStands q r env x absent s = Unit {0}
 
 -- what is read of a cell of a kind is what its memory holds, and a number of the kind
-pub record NumbersStand (q : Logic) (r : Common) (env : Values) (k : Kind) (s : Seen) (st : State) (b o : ℤ) : Type 0 where
-  pub number : state.held (cell.Of k) st b o ≡ state.number (load_in q env (s.numbers k) b o)
-  pub kind : holds r.model k (load_in q env (s.numbers k) b o) ≡ true
+pub record NumberHeld (m : Machdep) (k : Kind) (held : Memory) (st : State) (b o : ℤ) : Type 0 where
+  pub number : state.held (cell.Of k) st b o ≡ state.number (load held b o)
+  pub kind : holds m k (load held b o) ≡ true
 
-pub record PointersStand (q : Logic) (env : Values) (s : Seen) (st : State) (b o : ℤ) : Type 0 where
-  pub pointer : state.held cell.Ptr st b o ≡ state.pointer (load_in q env s.blocks b o) (load_in q env s.offsets b o)
-  pub address : HasAddress (load_in q env s.blocks b o)
+pub record PointerHeld (blocks offsets : Memory) (st : State) (b o : ℤ) : Type 0 where
+  pub pointer : state.held cell.Ptr st b o ≡ state.pointer (load blocks b o) (load offsets b o)
+  pub address : HasAddress (load blocks b o)
 
 -- at each address
+abbrev pub NumbersHeld : Machdep → Kind → Memory → State → Type 0
+NumbersHeld m k held st = (b o : ℤ) → HasAddress b → NumberHeld m k held st b o
+
+abbrev pub PointersHeld : (blocks offsets : Memory) → State → Type 0
+PointersHeld blocks offsets st = (b o : ℤ) → HasAddress b → PointerHeld blocks offsets st b o
+
+abbrev pub memory_in : Logic → Values → Term → Memory
+memory_in q env t = meant.memory (meaning q env t)
+
 pub record SeenStands (q : Logic) (r : Common) (env : Values) (s : Seen) (st : State) : Type 0 where
   pub variables : (x : Variable) → SlotStands q r env x (s.variable x) st
-  pub table : meant.table (meaning q env s.table) ≡ st.blocks
-  pub numbers : (k : Kind) (b o : ℤ) → HasAddress b → NumbersStand q r env k s st b o
-  pub pointers : (b o : ℤ) → HasAddress b → PointersStand q env s st b o
+  pub table : Holds (λ t. meant.table (meaning q env t) ≡ st.blocks) s.table
+  pub numbers : (k : Kind) → Holds (λ t. NumbersHeld r.model k (memory_in q env t) st) (s.numbers k)
+  pub pointers : Holds (λ p. PointersHeld (memory_in q env p.block) (memory_in q env p.offset) st) s.pointers
+
+-- the variables of the file that have blocks are where they always are
+abbrev pub AtHome : Common → State → Type 0
+AtHome r st = (n : ℕ) → Holds (λ b. (st.home (variable_of.Global n) ≡ b) × HasAddress b) (r.homes n)
 
 -- under these values each term means what the state of its label holds
 pub record Stands (q : Logic) (r : Reading) (env : Values) (w : World) : Type 0 where
@@ -84,4 +102,5 @@ pub record Stands (q : Logic) (r : Reading) (env : Values) (w : World) : Type 0 
   pub model : r.common.model ≡ w.model
   pub structs : (n : ℕ) → r.common.structs n ≡ w.structs n
   pub hidden : (x : Variable) → is_negative (r.common.hidden x) ≡ true
+  pub homes : (l : Label) → AtHome r.common (state_at l w)
   pub long_bits : q.long_bits ≡ long_bits r.common.model

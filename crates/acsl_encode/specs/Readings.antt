@@ -21,31 +21,62 @@ pub data Terms : Type 0 where
   elements : (block offset : Term) (size : ℕ) (low high : Term) → Terms
   nothing : Terms
 
+-- a pointer is its block and its offset; for the cells of pointers there is a memory of each
+pub record Pointer : Type 0 where
+  pub block : Term
+  pub offset : Term
+
+abbrev pub at : (block offset : Term) → Pointer
+at b o = record { block = b; offset = o }
+
 -- ---- states
 
--- A variable: what it holds, where no pointer leads to it, an integer of a kind or a pointer; else its block.
+-- A variable: what it holds, where no pointer leads to it, an integer of a kind or a pointer; else its block; or nothing is known of it.
 pub data Slot : Type 0 where
   whole : (k : Kind) (t : Term) → Slot
   pointer : (block offset : Term) → Slot
   home : (block : Term) → Slot
+  absent : Slot
 
--- The variables, the table of blocks, and a memory for each kind of cell, two for that of pointers.
+-- The variables, the table of blocks, and a memory for each kind of cell, two for that of pointers, as far as there are terms for them.
 pub record Seen : Type 0 where
   pub variable : Variable → Slot
-  pub table : Term
-  pub numbers : Kind → Term
-  pub blocks : Term
-  pub offsets : Term
+  pub table : Option Term
+  pub numbers : Kind → Option Term
+  pub pointers : Option Pointer
 
--- What is so in every state: the data model, and the cells of each struct; the numbers of blocks that stand for variables which no pointer leads to; and the
+-- ---- logic functions that call themselves (ACSL 2.6.3)
+
+-- the name of an integer, or those of a pointer's block and offset
+pub data Named : Type 0 where
+  one : (x : List ℕ) → Named
+  two : (block offset : List ℕ) → Named
+
+-- a variable of the file that no pointer leads to, by its number, an integer of a kind or a pointer, with its names
+pub data Global : Type 0 where
+  integer_global : (number : ℕ) (k : Kind) (x : List ℕ) → Global
+  pointer_global : (number : ℕ) (block offset : List ℕ) → Global
+
+-- A function's name, and those of its parameters. It is given the memories of these kinds, and these variables, as its body reads them.
+pub record Called : Type 0 where
+  pub name : List ℕ
+  pub params : List Named
+  pub memories : List CellKind
+  pub globals : List Global
+
+-- ---- readings
+
+-- What is so in every state: the data model, and the cells of each struct; the numbers of blocks that stand for variables which no pointer leads to, and those
+-- of the other variables of the file; and the
 -- names of the binders of a clause, in their order.
 pub record Common : Type 0 where
   pub model : Machdep
   pub structs : ℕ → List CellKind
   pub hidden : Variable → ℤ
+  pub homes : (number : ℕ) → Option ℤ
   pub binder : (number : ℕ) → List ℕ
 
--- the state that a term is read in, and those of labels; and what `\result` is
+-- the state that a term is read in, and those of labels; what `\result` is; and how logic functions are called, by their numbers
 pub record Reading : Type 0 where
   pub here : Seen
   pub pre : Seen
@@ -53,6 +84,7 @@ pub record Reading : Type 0 where
   pub loop_entry : Seen
   pub result : Terms
   pub common : Common
+  pub called : (number : ℕ) → Option Called
 
 -- under a label
 abbrev pub seen_at : Label → Reading → Seen

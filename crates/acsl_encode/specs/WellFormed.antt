@@ -1,20 +1,24 @@
 -- Formulas of annotations are well formed.
-use Rattle.std.specs.Prelude.{◌≡◌, ℕ, true, Option, Some, None}
+use Rattle.std.specs.Prelude.{◌≡◌, ℕ, true, Some}
 use Rattle.wp_base.specs.declared.kinds.Kind.{Kind}
 use Rattle.typed_prog.specs.declared.operators.Variable.{Variable}
 use Rattle.acsl_trees.specs.Tree.{Tree}
 use Rattle.qed_terms.specs.Tree.{Tree as Term, var}
+use Rattle.qed_terms.specs.Names.{is_name}
 use Rattle.qed_terms.specs.WellFormed.{fits, int, mem, tab, formula, argument}
-use Rattle.acsl_encode.specs.Readings.{Terms, integer, truth, address, variable, elements, nothing, Slot, whole, pointer, home, Seen, Reading}
-use Rattle.acsl_encode.specs.Encode.{Pointer, term_of, formula_of, pointer_of}
+use Rattle.acsl_encode.specs.Readings.{Called, Terms, integer, truth, address, variable, elements, nothing, Pointer, Slot, whole, pointer, home, absent, Seen, Reading}
+use Rattle.acsl_encode.specs.Meaning.{Holds}
+use Rattle.acsl_encode.specs.Encode.{term_of, formula_of, pointer_of}
 
 -- a well formed term for an integer, that isn't taken for a memory among arguments
 pub record IsInt (t : Term) : Type 0 where
   pub int : fits int t ≡ true
   pub argument : fits argument t ≡ true
 
-abbrev pub IsMemory : Term → Type 0
-IsMemory t = fits mem t ≡ true
+-- a well formed term for a memory, that is taken for one among arguments
+pub record IsMemory (t : Term) : Type 0 where
+  pub memory : fits mem t ≡ true
+  pub argument : fits argument t ≡ true
 
 abbrev pub IsTable : Term → Type 0
 IsTable t = fits tab t ≡ true
@@ -34,13 +38,13 @@ abbrev pub SlotFits : Slot → Type 0
 SlotFits (whole k t) = IsInt t
 SlotFits (pointer b o) = IsInt b × IsInt o
 SlotFits (home b) = IsInt b
+SlotFits absent = Unit {0}
 
 pub record SeenFits (s : Seen) : Type 0 where
   pub variables : (x : Variable) → SlotFits (s.variable x)
-  pub table : IsTable s.table
-  pub numbers : (k : Kind) → IsMemory (s.numbers k)
-  pub blocks : IsMemory s.blocks
-  pub offsets : IsMemory s.offsets
+  pub table : Holds IsTable s.table
+  pub numbers : (k : Kind) → Holds IsMemory (s.numbers k)
+  pub pointers : Holds (λ p. IsMemory p.block × IsMemory p.offset) s.pointers
 
 pub record ReadingFits (r : Reading) : Type 0 where
   pub here : SeenFits r.here
@@ -49,6 +53,7 @@ pub record ReadingFits (r : Reading) : Type 0 where
   pub loop_entry : SeenFits r.loop_entry
   pub result : TermsFit r.result
   pub binders : (n : ℕ) → IsInt (var (r.common.binder n))
+  pub called : (n : ℕ) (c : Called) → r.called n ≡ Some c → is_name c.name ≡ true
 
 -- what a tree comes to is well formed
 pub record Fits (r : Reading) (t : Tree) : Type 0 where

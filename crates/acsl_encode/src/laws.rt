@@ -1,6 +1,7 @@
 // What follows from the definitions.
 ghost use Rattle.acsl_encode.specs.Binders.{BindersDiffer};
 ghost use Rattle.acsl_encode.specs.Laws.{FormulasMean};
+ghost use Rattle.acsl_encode.specs.Regular.{SettingStands};
 ghost use Rattle.acsl_encode.specs.WellFormed.{FormulasFit};
 
 /// Each binder of a clause has a name of its own.
@@ -16,4 +17,9 @@ pub fn formulas_mean()
 /// Formulas and terms are well formed where those of the reading are.
 pub fn formulas_fit()
     ensures { FormulasFit }
+{}
+
+/// Logic functions of a setting have the values that their definitions give.
+pub fn setting_stands()
+    ensures { SettingStands }
 {}

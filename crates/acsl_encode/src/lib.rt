@@ -3,4 +3,4 @@
 
 mod laws;
 
-pub use laws::{binders_differ, formulas_fit, formulas_mean};
+pub use laws::{binders_differ, formulas_fit, formulas_mean, setting_stands};

@@ -2,6 +2,8 @@
 use Rattle.std.proofs.Common.{◌≡◌, ℕ, suc, ◌+◌, Bool, List, refl, subst, arith}
 use Rattle.std.specs.Prelude.{ℤ, Option, Some, None}
 use Rattle.c_kinds.specs.declared.models.Machdep.{Machdep}
+use Rattle.acsl_trees.specs.declared.heads.Content.{Content}
+use Rattle.acsl_trees.specs.declared.heads.Content.TheVariants as content
 use Rattle.acsl_trees.specs.declared.heads.Label.{Label}
 use Rattle.acsl_trees.specs.declared.heads.Range.{Range}
 use Rattle.acsl_trees.specs.declared.heads.Head.{Head}
@@ -11,17 +13,18 @@ use Rattle.acsl_truth.specs.States as state
 use Rattle.acsl_truth.specs.States.{Value, World, number, is_true}
 use Rattle.acsl_truth.specs.Truth as truth
 use Rattle.acsl_truth.specs.Truth.{heads_of, least, greatest}
-use Rattle.qed_terms.specs.Meaning.{Values, World as Logic}
-use Rattle.acsl_encode.specs.Readings.{Called, Terms}
+use Rattle.qed_terms.specs.Meaning.{Values, World as Logic, with_int}
+use Rattle.acsl_encode.specs.Readings.{Called, Terms, Common}
 use Rattle.acsl_encode.specs.Encode as encode
 use Rattle.acsl_encode.specs.Encode.{encoded, all_encoded, binders, all_binders, as_formula, ends_of, kind_of, terms_at}
 use Rattle.acsl_encode.specs.Meaning.{Holds, Means, Stands}
 use Rattle.acsl_encode.specs.Binders.{Later}
 use Rattle.acsl_encode.proofs.Operands.{as_truth, AllMean, kid_means, last_means}
 use Rattle.acsl_encode.proofs.Nodes.{applied_means, chain_means}
-use Rattle.acsl_encode.proofs.Around.{Around, later_same, behind, at_values, under_label, under_let, under_binder}
+use Rattle.acsl_encode.proofs.Around.{Around, later_same, later_bound, this_int, behind, at_values, under_label, under_let, under_binder}
 use Rattle.acsl_encode.proofs.Fitted.{AllFit, kid_fits, trees_fit}
 use Rattle.acsl_encode.proofs.Calling.{call_means, shared}
+use Rattle.acsl_encode.proofs.Cells.{valid_means}
 use Rattle.acsl_encode.proofs.Ranging.{Reach, Body, ends_mean, every_means, some_means, inside_kind}
 
 module _ (q : Logic) (m : truth.Calls) where
@@ -126,6 +129,34 @@ module _ (q : Logic) (m : truth.Calls) where
   plain_meant head ks h c =
       applied_means q c.r c.env (all_terms c ks) (all_meant c ks) (h c) c.w (c.stands c.env (later_same c.r.common.binder c.i c.env)) head
 
+  -- ---- cells that may be read or written
+
+  same_cells : (r : Common) (w : World) (k : Content) → ((n : ℕ) → r.structs n ≡ w.structs n) → encode.content_cells r k ≡ state.content_cells w k
+  same_cells r w (content.Integer k) h = refl
+  same_cells r w content.Pointer h = refl
+  same_cells r w (content.Struct n) h = h n
+
+  valid_meant : (k : Content) (writable : Bool) (ks : Trees) → AllMeant ks → Meant (node (hd.Valid k writable) ks)
+  valid_meant k writable ks h c =
+      subst (λ cells. Means q c.r.common c.env (terms c (node (hd.Valid k writable) ks)) (state.truth (state.is_valid writable c.w.here.blocks cells (state.span_of (truth.first (all_meant c ks))))))
+      (same_cells c.r.common c.w k (here c).structs)
+      (valid_means q c.r c.env x writable (encode.content_cells c.r.common k) c.r.here.table (terms_at (all_terms (kids c) ks) 0) (truth.first (all_meant c ks)) c.w.here.blocks
+        (kid_means q c.r.common c.env (all_terms (kids c) ks) (all_meant c ks) 0 (h (kids c))) ((here c).here.table)
+        (λ z. kid_means q c.r.common (with_int c.env x z) (all_terms (kids c) ks) (all_meant c ks) 0 (h (kids (bound z)))) (λ z. (here (bound z)).here.table)
+        (λ z. this_int c.env x z))
+    where
+      x : List ℕ
+      x = c.r.common.binder c.i
+
+      bound : ℤ → Around q m
+      bound z = at_values q m c (with_int c.env x z) (later_bound c.r.common.binder c.i c.env z)
+
+      kids : Around q m → Around q m
+      kids a = behind q m a (encode.own_binders (hd.Valid k writable) (heads_of ks))
+
+      here : (a : Around q m) → Stands q a.r a.env a.w
+      here a = a.stands a.env (later_same a.r.common.binder a.i a.env)
+
   mutual
     pub same_meaning : (t : Tree) → Meant t
     same_meaning (node (hd.Name x) ks) c = c.fits c.env (later_same c.r.common.binder c.i c.env) x
@@ -135,6 +166,7 @@ module _ (q : Logic) (m : truth.Calls) where
     same_meaning (node (hd.Every g) ks) c = every_meant g ks (same_meanings ks) c
     same_meaning (node (hd.Some g) ks) c = some_meant g ks (same_meanings ks) c
     same_meaning (node hd.Chain ks) c = chain_means q c.r c.env (heads_of ks) (all_terms c ks) (all_meant c ks) (same_meanings ks c)
+    same_meaning (node (hd.Valid k writable) ks) c = valid_meant k writable ks (same_meanings ks) c
     same_meaning (node head ks) c = plain_meant head ks (same_meanings ks) c
 
     pub same_meanings : (ts : Trees) → AllMeant ts

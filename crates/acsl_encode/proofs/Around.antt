@@ -46,7 +46,7 @@ other_int : (env : Values) (x y : List ℕ) (z : ℤ) → (x ≡ y → ⊥) → 
 other_int env x y z differ =
     ⊎_elim (λ yes. absurd (differ (sym ((bytes_eq-Decides y x).0 yes)))) (λ no. ap (λ b. cond b z (env.ints y)) no) (cases_Bool (bytes_eq y x))
 
-this_int : (env : Values) (x : List ℕ) (z : ℤ) → (with_int env x z).ints x ≡ z
+pub this_int : (env : Values) (x : List ℕ) (z : ℤ) → (with_int env x z).ints x ≡ z
 this_int env x z = ap (λ b. cond b z (env.ints x)) ((bytes_eq-Decides x x).1 refl)
 
 pub later_bound : (b : Binders) (i : ℕ) (env : Values) (z : ℤ) → Later b i env (with_int env (b i) z)

@@ -207,7 +207,7 @@ module _ (names : Spelled) (lack : AllLack names) (r : Common) (binders_are : (k
           (stands_then (apps_below j) (with_called n (Some c) known) env (later_same r.binder 0 env))
           (body_fits r (with_called n (Some c) known) c fits binders_fit step_names) (names_fit c.params fits.params)
           (named_then (apps_below j) (with_called n (Some c) known) env (later_same r.binder 0 env)) (λ f. refl)
-          (λ f e not_so h. others (suc j) f e (apps_below j) h (other_apps f j e h)) own step 0 goes)
+          (λ f e not_so h. others (suc j) f e (apps_below j) h (other_apps f j e h)) refl own step 0 goes)
 
   -- ---- all steps
 

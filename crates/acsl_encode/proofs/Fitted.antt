@@ -17,7 +17,7 @@ use Rattle.qed_terms.specs.declared.head.TermOp.TheVariants as op
 use Rattle.qed_terms.specs.declared.head.Head.{Head as TermHead}
 use Rattle.qed_terms.specs.declared.head.Head.TheVariants as th
 use Rattle.qed_terms.specs.Names.{is_name}
-use Rattle.qed_terms.specs.WellFormed.{fits, all_fit, each, kid_count, int, formula, argument}
+use Rattle.qed_terms.specs.WellFormed.{fits, all_fit, each, kid_count, int, tab, formula, argument}
 use Rattle.acsl_encode.specs.Readings as reading
 use Rattle.std.specs.Option.{option_map}
 use Rattle.wp_base.specs.declared.kinds.Kind.{Kind}
@@ -28,9 +28,9 @@ use Rattle.typed_prog.specs.declared.operators.Variable.TheVariants as variables
 use Rattle.acsl_encode.specs.Readings.{Named, one, two, Global, integer_global, pointer_global, Called, Slot, Pointer, Terms, integer, nothing, Seen, Reading, seen_at, seen_in, moved_to}
 use Rattle.acsl_encode.specs.Encode as encode
 use Rattle.acsl_encode.specs.Encode.{put, all_put, comparison, pointer_comparison, iff_of, op_one, op_two, as_integer, as_pointer, as_formula, terms_at, unbounded, with_one, with_two, all_of, linked, all_linked, in_chain, Ends, ends_of, low_end, high_end, kind_of, over, quantified, Names, with_name, encoded, all_encoded, binders, no_names, terms_of, body_of}
-use Rattle.acsl_encode.specs.WellFormed.{IsInt, IsMemory, IsFormula, TermsFit, SlotFits, SeenFits, ReadingFits, FormulasFit}
+use Rattle.acsl_encode.specs.WellFormed.{IsInt, IsMemory, IsTable, IsFormula, TermsFit, SlotFits, SeenFits, ReadingFits, FormulasFit}
 use Rattle.acsl_encode.specs.Meaning.{Holds}
-use Rattle.acsl_encode.proofs.Fitting.{only, all_three, number_fits, two_fit, not_fits, comparison_fits, arithmetic_fits, pointers_fit, further_fits, moved_fits, difference_fits, AllFormulas, all_of_fits, PointerFits, integer_fits, formula_fits, pointer_fits, on_one, on_two, variable_fits, read_fits, converted_fits, either_fits}
+use Rattle.acsl_encode.proofs.Fitting.{only, all_three, number_fits, two_fit, not_fits, comparison_fits, arithmetic_fits, pointers_fit, further_fits, moved_fits, difference_fits, AllFormulas, all_of_fits, PointerFits, integer_fits, formula_fits, pointer_fits, on_one, on_two, variable_fits, read_fits, converted_fits, either_fits, times_fit}
 
 -- ---- kids
 
@@ -83,6 +83,15 @@ module _ (r : Reading) (good : ReadingFits r) (xs : List Terms) (h : AllFit xs) 
   moved_at : (minus : Bool) (n : ℕ) → TermsFit (with_two (encode.moved minus n) (as_pointer (terms_at xs 0)) (as_integer (terms_at xs 1)))
   moved_at minus n = on_two PointerFits IsInt (encode.moved minus n) (as_pointer (terms_at xs 0)) (as_integer (terms_at xs 1)) (pointer_at 0) (integer_at 1) (moved_fits minus n)
 
+  reached_fits : (n : ℕ) (o : Option Pointer) (i j : Option Term) → Holds PointerFits o → Holds IsInt i → Holds IsInt j → TermsFit (encode.reached n o i j)
+  reached_fits n (Some p) (Some t) (Some u) a b c = (a.0, a.1, b, c)
+  reached_fits n (Some p) (Some t) None a b c = tt
+  reached_fits n (Some p) None j a b c = tt
+  reached_fits n None i j a b c = tt
+
+  reached_at : (n : ℕ) → TermsFit (encode.reached n (as_pointer (terms_at xs 0)) (as_integer (terms_at xs 1)) (as_integer (terms_at xs 2)))
+  reached_at n = reached_fits n (as_pointer (terms_at xs 0)) (as_integer (terms_at xs 1)) (as_integer (terms_at xs 2)) (pointer_at 0) (integer_at 1) (integer_at 2)
+
   read_at : (c : _) (l : Option Label) → TermsFit (encode.read c (seen_in l r) (terms_at xs 0))
   read_at c None = read_fits c r.here (terms_at xs 0) good.here (kid_fits xs 0 h)
   read_at c (Some l) = read_fits c (seen_at l r) (terms_at xs 0) (seen_fits l r good) (kid_fits xs 0 h)
@@ -99,8 +108,8 @@ module _ (r : Reading) (good : ReadingFits r) (xs : List Terms) (h : AllFit xs) 
   applied_fits (hd.Field k n) =
       on_one PointerFits (λ p. reading.address p.block (encode.further n p.offset)) (as_pointer (terms_at xs 0)) (pointer_at 0) (λ p f. (f.0, further_fits n p.offset f.1))
   applied_fits (hd.Element n count) = moved_at false n
-  applied_fits (hd.Elements n count) = tt
-  applied_fits (hd.Behind n) = tt
+  applied_fits (hd.Elements n count) = reached_at n
+  applied_fits (hd.Behind n) = reached_at n
   applied_fits (hd.Read c l) = read_at c l
   applied_fits hd.Address = kid_fits xs 0 h
   applied_fits (hd.Moved minus n) = moved_at minus n
@@ -284,6 +293,35 @@ forall_fits x n e f h k = λ i. named _ n.int i && all_three (fits int e.low) (f
 exists_fits : (x : List ℕ) → IsInt (var x) → Quantifies (th.Exists x)
 exists_fits x n e f h k = λ i. named _ n.int i && all_three (fits int e.low) (fits int e.high) (fits formula f) h.0.int h.1.int k i
 
+-- ---- cells that may be read or written
+
+cell_fits : (writable : Bool) (k : CellKind) (t b o : Term) → IsTable t → IsInt b → IsInt o → IsFormula (encode.good_cell writable k t b o)
+cell_fits true k t b o h a e = all_three (fits tab t) (fits int b) (fits int o) h a.int e.int
+cell_fits false k t b o h a e = all_three (fits tab t) (fits int b) (fits int o) h a.int e.int
+
+cells_fit : (writable : Bool) (t b o : Term) (ks : List CellKind) (n : ℕ) → IsTable t → IsInt b → IsInt o → AllFormulas (encode.good_cells writable t b o ks n)
+cells_fit writable t b o [] n h a e = tt
+cells_fit writable t b o (k ∷ ks) n h a e = (cell_fits writable k t b (encode.further n o) h a (further_fits n o e), cells_fit writable t b o ks (suc n) h a e)
+
+valid_fits : (x : List ℕ) (writable : Bool) (ks : List CellKind) (o : Option Term) (y : Terms) → IsInt (var x) → Holds IsTable o → TermsFit y → TermsFit (encode.valid x writable ks o y)
+valid_fits x writable ks o (reading.address b e) n h k =
+    on_one IsTable (λ t. reading.truth (all_of (encode.good_cells writable t b e ks 0))) o h
+    (λ t f. all_of_fits (encode.good_cells writable t b e ks 0) (cells_fit writable t b e ks 0 f k.0 k.1))
+valid_fits x writable ks o (reading.elements b e size low high) n h k =
+    on_one IsTable (λ t. reading.truth (over (th.Forall x) (record { low = low; high = encode.one_more high }) (all_of (cells t)))) o h
+    (λ t f. forall_fits x n (record { low = low; high = encode.one_more high }) (all_of (cells t)) (k.2, high_fits false high k.3)
+      (all_of_fits (cells t) (cells_fit writable t b (encode.element_at e size (var x)) ks 0 f k.0 place)))
+  where
+    cells : Term → List Term
+    cells t = encode.good_cells writable t b (encode.element_at e size (var x)) ks 0
+
+    place : IsInt (encode.element_at e size (var x))
+    place = arithmetic_fits ar.Add e (encode.times size (var x)) k.1 (times_fit size (var x) n)
+valid_fits x writable ks o (integer l t) n h k = tt
+valid_fits x writable ks o (reading.truth f) n h k = tt
+valid_fits x writable ks o (reading.variable y) n h k = tt
+valid_fits x writable ks o nothing n h k = tt
+
 -- ---- trees
 
 abbrev pub NamesFit : Names → Type 0
@@ -331,6 +369,10 @@ mutual
   tree_fits (node hd.Chain ks) r ns i d good k =
       on_one AllFormulas (λ fs. reading.truth (all_of fs)) (in_chain (heads_of ks) (all_encoded r ns i d ks))
       (chain_fits (heads_of ks) (all_encoded r ns i d ks) (trees_fit ks r ns i d good k)) all_of_fits
+  tree_fits (node (hd.Valid c writable) ks) r ns i d good k =
+      let at = i + encode.own_binders (hd.Valid c writable) (heads_of ks) in
+      valid_fits (r.common.binder i) writable (encode.content_cells r.common c) r.here.table (terms_at (all_encoded r ns at d ks) 0) (good.binders i) good.here.table
+      (kid_fits (all_encoded r ns at d ks) 0 (trees_fit ks r ns at d good k))
   tree_fits (node head ks) r ns i d good k = applied_fits r good (all_encoded r ns i d ks) (trees_fit ks r ns i d good k) head
 
   pub trees_fit : (ts : Trees) → KidsFit ts

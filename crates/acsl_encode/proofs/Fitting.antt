@@ -112,7 +112,7 @@ all_of_fits (f ∷ g ∷ fs) h = all_fit_of (f ∷ g ∷ fs) h
 
 -- ---- pointers
 
-times_fit : (n : ℕ) (t : Term) → IsInt t → IsInt (times n t)
+pub times_fit : (n : ℕ) (t : Term) → IsInt t → IsInt (times n t)
 times_fit n t h = if_fits (n == 1) t (op_two op.Mul (num (pos n)) t) h (arithmetic_fits ar.Mul (num (pos n)) t (number_fits (pos n)) h)
 
 pub further_fits : (n : ℕ) (o : Term) → IsInt o → IsInt (further n o)

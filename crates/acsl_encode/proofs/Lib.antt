@@ -19,3 +19,5 @@ pub mod Reading_bodies
 pub mod Steps
 pub mod Descending
 pub mod Settings
+pub mod Cells
+pub mod Examples

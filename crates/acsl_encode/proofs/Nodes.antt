@@ -71,6 +71,19 @@ module _ (q : Logic) (r : Reading) (env : Values) where
         on_two q r.common env (IsPointer q r.common env (value_at vs 0)) (IsNumber q r.common env (value_at vs 1)) (encode.moved minus n) _ (as_pointer (terms_at xs 0))
         (as_integer (terms_at xs 1)) (pointer_at 0) (integer_at 1) (λ p t. moved_means q r.common env minus n (value_at vs 0) (value_at vs 1) p t)
 
+    reached_means : (n : ℕ) (u v w : Value) (o : Option Pointer) (i j : Option Term) → Holds (IsPointer q r.common env u) o → Holds (IsNumber q r.common env v) i
+        → Holds (IsNumber q r.common env w) j → M (encode.reached n o i j) (truth.reached n u v w)
+    reached_means n u v w (Some p) (Some t) (Some t') a b c = λ i. truth.reached n (a.0 i) (b i) (c i)
+    reached_means n u v w (Some p) (Some t) None a b c = tt
+    reached_means n u v w (Some p) None j a b c = tt
+    reached_means n u v w None i j a b c = tt
+
+    reached_at : (n : ℕ) → M (encode.reached n (as_pointer (terms_at xs 0)) (as_integer (terms_at xs 1)) (as_integer (terms_at xs 2)))
+        (truth.reached n (value_at vs 0) (value_at vs 1) (value_at vs 2))
+    reached_at n =
+        reached_means n (value_at vs 0) (value_at vs 1) (value_at vs 2) (as_pointer (terms_at xs 0)) (as_integer (terms_at xs 1)) (as_integer (terms_at xs 2)) (pointer_at 0)
+        (integer_at 1) (integer_at 2)
+
     on_formulas : (f : Term → Term → Term) (g : Bool → Bool → Bool) → ((a b : Term) → g (F a) (F b) ≡ F (f a b))
         → Found (encode.with_two (λ a b. reading.truth (f a b)) (as_formula (terms_at xs 0)) (as_formula (terms_at xs 1))) (g (is_true (value_at vs 0)) (is_true (value_at vs 1)))
     on_formulas f g is =
@@ -99,8 +112,8 @@ module _ (q : Logic) (r : Reading) (env : Values) where
       applied_means (hd.Field k n) =
           on_one q r.common env (IsPointer q r.common env (value_at vs 0)) _ _ (as_pointer (terms_at xs 0)) (pointer_at 0) (λ p. field_means q r.common env n (value_at vs 0) p)
       applied_means (hd.Element n count) = moved_at false n
-      applied_means (hd.Elements n count) = tt
-      applied_means (hd.Behind n) = tt
+      applied_means (hd.Elements n count) = reached_at n
+      applied_means (hd.Behind n) = reached_at n
       applied_means (hd.Read c l) = read_at c l
       applied_means hd.Address = kid_means q r.common env xs vs 0 h
       applied_means (hd.Moved minus n) = moved_at minus n

@@ -129,7 +129,7 @@ module _ (q : Logic) (r : Common) (env : Values) where
       by true e = ap (λ k. pos k *ℤ N t) (eqb-true n 1 e) ∙ one_times (N t)
       by false e = sym (product_two (pos n) (N t))
 
-  further_is : (n : ℕ) (o : Term) → N o +ℤ pos n ≡ N (further n o)
+  pub further_is : (n : ℕ) (o : Term) → N o +ℤ pos n ≡ N (further n o)
   further_is zero o = none_more (N o)
   further_is (suc n) o = sym (sum_two (N o) (pos (suc n)))
 

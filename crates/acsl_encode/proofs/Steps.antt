@@ -1,8 +1,9 @@
 -- A step's term means the step, where calls of the function itself are one further down.
-use Rattle.std.proofs.Common.{◌≡◌, ℕ, zero, suc, ◌+◌, ◌==◌, eqb, true, false, ◌&&◌, List, ◌∷◌, length, refl, sym, ap, ◌∙◌, subst, arith, ⊎_elim}
+use Rattle.std.proofs.Common.{◌≡◌, ℕ, zero, suc, ◌+◌, ◌==◌, eqb, true, false, ◌&&◌, List, ◌∷◌, length, refl, sym, ap, ◌∙◌, subst, arith, ⊎_elim, Bool}
 use Rattle.std.specs.Prelude.{ℤ, pos, negsuc, ◌-ℤ◌, ◌-◌, Option, Some, None, if◌then◌else◌, slice_index_or}
 use Rattle.std.proofs.lemmas.Bool.{cases_Bool, and_parts, false≢true, eqb-true}
 use Rattle.typed_prog.specs.declared.operators.Arithmetic.TheVariants as ar
+use Rattle.wp_base.specs.declared.kinds.CellKind.{CellKind}
 use Rattle.acsl_trees.specs.declared.heads.Head.{Head}
 use Rattle.acsl_trees.specs.declared.heads.Head.TheVariants as hd
 use Rattle.acsl_trees.specs.Tree.{Tree, Trees, node, stop, more}
@@ -10,9 +11,9 @@ use Rattle.acsl_truth.specs.States.{Value, World, number, number_of}
 use Rattle.acsl_truth.specs.Truth.{Calls, Env, last_of, heads_of, value, values}
 use Rattle.acsl_truth.specs.Recursion.{is_own, is_plain, last_kid, is_one, is_one_less, goes_down, all_go_down}
 use Rattle.qed_terms.specs.Meaning.{Values, World as Logic}
-use Rattle.acsl_encode.specs.Readings.{Called, Terms, Reading}
+use Rattle.acsl_encode.specs.Readings.{Called, Terms, integer, truth, address, variable, elements, nothing, Common, Reading}
 use Rattle.acsl_encode.specs.Encode as encode
-use Rattle.acsl_encode.specs.Encode.{Names, encoded, all_encoded, binders}
+use Rattle.acsl_encode.specs.Encode.{terms_at, Names, encoded, all_encoded, binders}
 use Rattle.acsl_encode.specs.Meaning.{Means, Stands}
 use Rattle.acsl_encode.specs.Calls.{CallStands}
 use Rattle.acsl_encode.specs.WellFormed.{ReadingFits}
@@ -44,12 +45,24 @@ less_value m env d w x (node (hd.Arithmetic ar.Sub) (more (node (hd.Name y) us) 
     ap (λ k. number_of (env k) -ℤ z) (eqb-true y x p.0) ∙ ap (λ k. number_of (env x) -ℤ k) (one_is z p.1)
 less_value m env d w x t h = absurd (false≢true h)
 
+-- ---- nothing is known of cells where there is no table
+
+without_table : (q : Logic) (r : Common) (env : Values) (x : List ℕ) (writable : Bool) (ks : List CellKind) (y : Terms) (v : Value)
+    → Means q r env (encode.valid x writable ks None y) v
+without_table q r env x writable ks (integer l t) v = tt
+without_table q r env x writable ks (truth f) v = tt
+without_table q r env x writable ks (address b o) v = tt
+without_table q r env x writable ks (variable y) v = tt
+without_table q r env x writable ks (elements b o n i j) v = tt
+without_table q r env x writable ks nothing v = tt
+
 -- ---- trees whose calls of function n go down
 
 module _ (q : Logic) (m : Calls) (r : Reading) (known : Known) (n x : ℕ) (c : Called) (env : Values) (w : World) (names : Names) (vals : Env) (d : ℕ)
     (stands : Stands q r env w) (good : ReadingFits r) (fit : NamesFit names) (mean : (y : ℕ) → Means q r.common env (names y) (vals y))
     (is : (f : ℕ) → r.called f ≡ with_called n (Some c) known f)
     (others : (f : ℕ) (e : Called) → eqb f n ≡ false → known f ≡ Some e → CallStands q.apps m r.common f e)
+    (no_table : r.here.table ≡ None)
     (own : (us : List Value) → number_of (last_of us) ≡ number_of (vals x) -ℤ pos 1 → Wanted q env r w stands good m n c us) where
   abbrev terms : ℕ → Tree → Terms
   terms i t = encoded r names i d t
@@ -101,6 +114,10 @@ module _ (q : Logic) (m : Calls) (r : Reading) (known : Known) (n x : ℕ) (c : 
   node_means (hd.Every g) i ks h plain goes = absurd (false≢true plain)
   node_means (hd.Some g) i ks h plain goes = absurd (false≢true plain)
   node_means hd.Chain i ks h plain goes = chain_means q r env (heads_of ks) (all_terms i ks) (all_meant ks) h
+  node_means (hd.Valid k writable) i ks h plain goes =
+      let x = terms_at (all_terms (i + encode.own_binders (hd.Valid k writable) (heads_of ks)) ks) 0 in
+      subst (λ o. Means q r.common env (encode.valid (r.common.binder i) writable (encode.content_cells r.common k) o x) (meant (node (hd.Valid k writable) ks))) (sym no_table)
+      (without_table q r.common env (r.common.binder i) writable (encode.content_cells r.common k) x (meant (node (hd.Valid k writable) ks)))
   node_means head i ks h plain goes = applied_means q r env (all_terms i ks) (all_meant ks) h w stands head
 
   mutual

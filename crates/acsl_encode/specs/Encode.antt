@@ -24,11 +24,13 @@ use Rattle.acsl_trees.specs.Tree.{Tree, Trees, node, stop, more}
 use Rattle.acsl_truth.specs.Truth.{heads_of}
 use Rattle.qed_terms.specs.declared.head.Head.{Head as TermHead}
 use Rattle.qed_terms.specs.declared.head.Head.TheVariants as th
+use Rattle.qed_terms.specs.declared.head.FormOp.{FormOp}
+use Rattle.qed_terms.specs.declared.head.FormOp.TheVariants as form
 use Rattle.qed_terms.specs.declared.head.TermOp.{TermOp}
 use Rattle.qed_terms.specs.declared.head.TermOp.TheVariants as op
 use Rattle.qed_terms.specs.Tree as tree
 use Rattle.qed_terms.specs.Tree.{Tree as Term, num, var, true_tree, at_most, less, equal, ite, not_of, and_of, or_of, imp_of}
-use Rattle.acsl_encode.specs.Readings.{Pointer, at, Named, one, two, Global, integer_global, pointer_global, Called, Terms, integer, truth, address, variable, nothing, Slot, whole, pointer, home, absent, Seen, Reading, moved_to, seen_in}
+use Rattle.acsl_encode.specs.Readings.{Pointer, at, Named, one, two, Global, integer_global, pointer_global, Called, Terms, integer, truth, address, variable, nothing, Slot, whole, pointer, home, absent, Seen, Reading, moved_to, seen_in, elements, Common}
 
 -- ---- terms and formulas
 
@@ -197,6 +199,10 @@ either (integer k t) y c = with_one (λ u. unbounded (ite c t u)) (as_integer y)
 either (address b o) y c = either_address c (at b o) y
 either _ y c = nothing
 
+abbrev pub reached : (size : ℕ) → Option Pointer → Option Term → Option Term → Terms
+reached size (Some p) i j = with_two (elements p.block p.offset size) i j
+reached size None i j = nothing
+
 abbrev pub applied : Reading → Head → List Terms → Terms
 applied r (h.Number z) xs = unbounded (num z)
 applied r h.Null xs = address (num (pos 0)) (num (pos 0))
@@ -205,6 +211,8 @@ applied r (h.Variable x) xs = of_variable x (r.here.variable x)
 applied r h.Pointed xs = first xs
 applied r (h.Field k offset) xs = with_one (λ p. address p.block (further offset p.offset)) (as_pointer (first xs))
 applied r (h.Element size count) xs = with_two (moved false size) (as_pointer (first xs)) (as_integer (second xs))
+applied r (h.Elements size count) xs = reached size (as_pointer (first xs)) (as_integer (second xs)) (as_integer (third xs))
+applied r (h.Behind size) xs = reached size (as_pointer (first xs)) (as_integer (second xs)) (as_integer (third xs))
 applied r (h.Read c l) xs = read c (seen_in l r) (first xs)
 applied r h.Address xs = first xs
 applied r (h.Moved minus size) xs = with_two (moved minus size) (as_pointer (first xs)) (as_integer (second xs))
@@ -336,6 +344,41 @@ over q e f = tree.node q (tree.three e.low e.high f)
 abbrev pub quantified : TermHead → Option Ends → Option Term → Terms
 quantified q = with_two (λ e f. truth (over q e f))
 
+-- ---- what may be read or written, cell by cell
+
+abbrev pub content_cells : Common → Content → List CellKind
+content_cells r (content.Integer k) = cell.Of k ∷ []
+content_cells r content.Pointer = cell.Ptr ∷ []
+content_cells r (content.Struct n) = r.structs n
+
+abbrev pub access : (writable : Bool) → CellKind → FormOp
+access true k = form.Write k
+access false k = form.Read k
+
+abbrev pub good_cell : (writable : Bool) → CellKind → (table block offset : Term) → Term
+good_cell writable k t b o = tree.node (th.Form (access writable k)) (tree.three t b o)
+
+-- the cells from the one with this number on
+abbrev pub good_cells : (writable : Bool) → (table block offset : Term) → List CellKind → (number : ℕ) → List Term
+good_cells writable t b o [] n = []
+good_cells writable t b o (k ∷ ks) n = good_cell writable k t b (further n o) ∷ good_cells writable t b o ks (suc n)
+
+-- where the element with this number is
+abbrev pub element_at : (offset : Term) → (size : ℕ) → (number : Term) → Term
+element_at o size t = op_two op.Add o (times size t)
+
+-- a range has a binder of its own
+abbrev pub valid : (binder : List ℕ) → (writable : Bool) → List CellKind → (table : Option Term) → Terms → Terms
+valid x writable ks table (address b o) = with_one (λ t. truth (all_of (good_cells writable t b o ks 0))) table
+valid x writable ks table (elements b o size low high) =
+    with_one (λ t. truth (over (th.Forall x) (record { low = low; high = one_more high }) (all_of (good_cells writable t b (element_at o size (var x)) ks 0)))) table
+valid x writable ks table _ = nothing
+
+abbrev pub is_range : List Head → Bool
+is_range (h.Elements size count ∷ ls) = true
+is_range (h.Behind size ∷ ls) = true
+is_range _ = false
+
 -- what stands for each name that is around
 abbrev pub Names : Type 0
 Names = (name : ℕ) → Terms
@@ -349,15 +392,16 @@ Kids = Reading → Names → (next around : ℕ) → List Terms
 
 -- ---- trees
 
--- how many binders a node has itself
-abbrev pub own_binders : Head → ℕ
-own_binders (h.Every g) = 1
-own_binders (h.Some g) = 1
-own_binders _ = 0
+-- how many binders a node has itself, with kids of these heads
+abbrev pub own_binders : Head → List Head → ℕ
+own_binders (h.Every g) ls = 1
+own_binders (h.Some g) ls = 1
+own_binders (h.Valid c writable) ls = if is_range ls then 1 else 0
+own_binders _ ls = 0
 
 abbrev mutual
   pub binders : Tree → ℕ
-  binders (node head ks) = own_binders head + all_binders ks
+  binders (node head ks) = own_binders head (heads_of ks) + all_binders ks
 
   pub all_binders : Trees → ℕ
   all_binders stop = 0
@@ -377,6 +421,8 @@ node_terms r ns i d (h.Every g) ls kids =
 node_terms r ns i d (h.Some g) ls kids =
     quantified (th.Exists (r.common.binder i)) (ends_of r.common.model g (kids r ns (suc i) d)) (as_formula (body_of kids r ns i d g))
 node_terms r ns i d h.Chain ls kids = with_one (λ fs. truth (all_of fs)) (in_chain ls (kids r ns i d))
+node_terms r ns i d (h.Valid c writable) ls kids =
+    valid (r.common.binder i) writable (content_cells r.common c) r.here.table (first (kids r ns (i + own_binders (h.Valid c writable) ls) d))
 node_terms r ns i d head ls kids = applied r head (kids r ns i d)
 
 abbrev mutual

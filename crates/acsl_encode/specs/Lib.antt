@@ -7,3 +7,4 @@ pub mod Laws
 pub mod WellFormed
 pub mod Setting
 pub mod Regular
+pub mod Examples

@@ -1,5 +1,6 @@
 // What follows from the definitions.
 ghost use Rattle.acsl_encode.specs.Binders.{BindersDiffer};
+ghost use Rattle.acsl_encode.specs.Examples.{ExamplesHold};
 ghost use Rattle.acsl_encode.specs.Laws.{FormulasMean};
 ghost use Rattle.acsl_encode.specs.Regular.{SettingStands};
 ghost use Rattle.acsl_encode.specs.WellFormed.{FormulasFit};
@@ -22,4 +23,9 @@ pub fn formulas_fit()
 /// Logic functions of a setting have the values that their definitions give.
 pub fn setting_stands()
     ensures { SettingStands }
+{}
+
+/// What a number of annotations become, word for word.
+pub fn examples_hold()
+    ensures { ExamplesHold }
 {}

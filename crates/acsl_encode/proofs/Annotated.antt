@@ -67,7 +67,7 @@ module _ (q : Logic) (m : truth.Calls) where
   let_meant : (ks : Trees) → AllMeant ks → Meant (node hd.Let ks)
   let_meant ks h c =
       let first : (env' : Values) → Later c.r.common.binder c.i c.env env' → Means q c.r.common env' (terms_at (all_terms c ks) 0) (truth.first (all_meant c ks))
-          = λ env' l. kid_means q c.r.common env' (all_terms c ks) (all_meant c ks) 0 (h (at_values q m c env' l)) in
+      = λ env' l. kid_means q c.r.common env' (all_terms c ks) (all_meant c ks) 0 (h (at_values q m c env' l)) in
       let inside = under_let q m c (terms_at (all_terms c ks) 0) (truth.first (all_meant c ks)) (kid_fits (all_terms c ks) 0 (all_fit c ks)) first in
       last_means q c.r.common c.env (all_terms inside ks) (all_meant inside ks) (h inside)
 
@@ -141,9 +141,9 @@ module _ (q : Logic) (m : truth.Calls) where
       subst (λ cells. Means q c.r.common c.env (terms c (node (hd.Valid k writable) ks)) (state.truth (state.is_valid writable c.w.here.blocks cells (state.span_of (truth.first (all_meant c ks))))))
       (same_cells c.r.common c.w k (here c).structs)
       (valid_means q c.r c.env x writable (encode.content_cells c.r.common k) c.r.here.table (terms_at (all_terms (kids c) ks) 0) (truth.first (all_meant c ks)) c.w.here.blocks
-        (kid_means q c.r.common c.env (all_terms (kids c) ks) (all_meant c ks) 0 (h (kids c))) ((here c).here.table)
-        (λ z. kid_means q c.r.common (with_int c.env x z) (all_terms (kids c) ks) (all_meant c ks) 0 (h (kids (bound z)))) (λ z. (here (bound z)).here.table)
-        (λ z. this_int c.env x z))
+      (kid_means q c.r.common c.env (all_terms (kids c) ks) (all_meant c ks) 0 (h (kids c))) ((here c).here.table)
+      (λ z. kid_means q c.r.common (with_int c.env x z) (all_terms (kids c) ks) (all_meant c ks) 0 (h (kids (bound z)))) (λ z. (here (bound z)).here.table)
+      (λ z. this_int c.env x z))
     where
       x : List ℕ
       x = c.r.common.binder c.i

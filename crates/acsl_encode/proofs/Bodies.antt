@@ -85,7 +85,7 @@ kind_back kind.ULong = refl
 kind_back kind.LLong = refl
 kind_back kind.ULLong = refl
 
-same_kind : (k l : Kind) → (kind_place k == kind_place l) ≡ true → k ≡ l
+pub same_kind : (k l : Kind) → (kind_place k == kind_place l) ≡ true → k ≡ l
 same_kind k l h = sym (kind_back k) ∙ ap kind_at (eqb-true (kind_place k) (kind_place l) h) ∙ kind_back l
 
 module _ (q : Logic) (env : Values) where

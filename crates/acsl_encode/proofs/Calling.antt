@@ -130,13 +130,13 @@ module _ (q : Logic) (env : Values) where
     call_means m f c xs vs all fit wanted =
         on_one q r.common env (λ ts. m f vs w ≡ state.number (q.apps c.name (V ts))) (λ ts. unbounded (app c.name ts)) (m f vs w) (all_given r c xs)
         (put_give (AreArguments c.params vs) Rest (λ vals. m f vs w ≡ state.number (q.apps c.name vals)) (arguments c.params xs) _
-          (arguments_give r.common c.params xs vs all fit)
-          (put_give (AllAre (calls.IsMemory r.common.model w.here) c.memories) (AllAre (IsGlobal r.common w.here) c.globals) Rest
-            (all_put (memory_of r.here) c.memories) (all_put (global_of r.common.model r.here) c.globals)
-            (all_give (calls.IsMemory r.common.model w.here) (memory_of r.here) c.memories (memory_gives r.common r.here w.here h.here good.here))
-            (all_give (IsGlobal r.common w.here) (global_of r.common.model r.here) c.globals (global_gives r.common r.here w.here h.here good.here))
-            (λ a b e g. (a, b, e, g, refl)))
-          (λ a b e g. wanted a g.0 g.1 e g.2 g.3 ∙ ap (λ vals. state.number (q.apps c.name (a ++ vals))) (sym g.4)))
+        (arguments_give r.common c.params xs vs all fit)
+        (put_give (AllAre (calls.IsMemory r.common.model w.here) c.memories) (AllAre (IsGlobal r.common w.here) c.globals) Rest
+        (all_put (memory_of r.here) c.memories) (all_put (global_of r.common.model r.here) c.globals)
+        (all_give (calls.IsMemory r.common.model w.here) (memory_of r.here) c.memories (memory_gives r.common r.here w.here h.here good.here))
+        (all_give (IsGlobal r.common w.here) (global_of r.common.model r.here) c.globals (global_gives r.common r.here w.here h.here good.here))
+        (λ a b e g. (a, b, e, g, refl)))
+        (λ a b e g. wanted a g.0 g.1 e g.2 g.3 ∙ ap (λ vals. state.number (q.apps c.name (a ++ vals))) (sym g.4)))
         (λ ts e. (e, tt))
       where
         Rest : Given → Type 0

@@ -70,8 +70,8 @@ module _ (q : Logic) (r : Reading) where
       each z =
           let e = with_int env x z in
           let at : address_at (span_of v) z ≡ number_in q e (element_at o size (var x)) =
-              ap (λ v. address_at (span_of v) z) (later z) ∙ ap (λ k. number_in q e o +ℤ k) (ap (λ y. pos size *ℤ y) (sym (bound z)) ∙ times_is q r.common e size (var x))
-              ∙ sym (sum_two (number_in q e o) (number_in q e (times size (var x)))) in
+          ap (λ v. address_at (span_of v) z) (later z) ∙ ap (λ k. number_in q e o +ℤ k) (ap (λ y. pos size *ℤ y) (sym (bound z)) ∙ times_is q r.common e size (var x))
+          ∙ sym (sum_two (number_in q e o) (number_in q e (times size (var x)))) in
           (λ i. are_good_cells writable (sym (table z) i) ks (span_of (later z i)).block (at i)) ∙ good_at e writable t b (element_at o size (var x)) ks
 
   -- ---- all of what a node may have

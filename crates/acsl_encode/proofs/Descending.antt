@@ -135,7 +135,7 @@ module _ (names : Spelled) (lack : AllLack names) (r : Common) (binders_are : (k
         both_arguments (all_params params_of c.params) (all_params memory_params c.memories ++ all_params global_params c.globals) args (ms ++ gs)
         (arguments_count c.params vs args are)
         (both_arguments (all_params memory_params c.memories) (all_params global_params c.globals) ms gs (memories_count r w.here c.memories ms memories)
-          (globals_count r w.here c.globals gs globals))
+        (globals_count r w.here c.globals gs globals))
 
     -- each part is bound, whatever binders are
     record Parts (env' : Values) : Type 0 where
@@ -147,7 +147,7 @@ module _ (names : Spelled) (lack : AllLack names) (r : Common) (binders_are : (k
     parts env' l =
         let all = later_bound names r binders_are env env' l c fits vals (all_bound (params_in c) vals fits.differ counts) in
         let one = split_bound env' (all_params params_of c.params) (all_params memory_params c.memories ++ all_params global_params c.globals) args (ms ++ gs)
-            (arguments_count c.params vs args are) all in
+        (arguments_count c.params vs args are) all in
         let two = split_bound env' (all_params memory_params c.memories) (all_params global_params c.globals) ms gs (memories_count r w.here c.memories ms memories) one.1 in
         record { of_params = one.0; of_memories = two.0; of_globals = two.1 }
 
@@ -204,10 +204,10 @@ module _ (names : Spelled) (lack : AllLack names) (r : Common) (binders_are : (k
         chosen_step (int_le (number_of (value_at vs x)) cut) (value (below (suc j)) (named vs) (length vs) w base) (value (below (suc j)) (named vs) (length vs) w step) above
         ∙ arm_is (apps_below j) (with_called n (Some c) known) (below (suc j)) step ts is_step
         (step_means (logic (apps_below j)) (below (suc j)) (body_reading r (with_called n (Some c) known) c) known n x c env w (names_of c.params) (named vs) (length c.params)
-          (stands_then (apps_below j) (with_called n (Some c) known) env (later_same r.binder 0 env))
-          (body_fits r (with_called n (Some c) known) c fits binders_fit step_names) (names_fit c.params fits.params)
-          (named_then (apps_below j) (with_called n (Some c) known) env (later_same r.binder 0 env)) (λ f. refl)
-          (λ f e not_so h. others (suc j) f e (apps_below j) h (other_apps f j e h)) refl own step 0 goes)
+        (stands_then (apps_below j) (with_called n (Some c) known) env (later_same r.binder 0 env))
+        (body_fits r (with_called n (Some c) known) c fits binders_fit step_names) (names_fit c.params fits.params)
+        (named_then (apps_below j) (with_called n (Some c) known) env (later_same r.binder 0 env)) (λ f. refl)
+        (λ f e not_so h. others (suc j) f e (apps_below j) h (other_apps f j e h)) refl own step 0 goes)
 
   -- ---- all steps
 
@@ -233,4 +233,4 @@ module _ (names : Spelled) (lack : AllLack names) (r : Common) (binders_are : (k
           ap (λ t. if t then stepped m n body (suc j) us w else m n us w) ((Decides-eqb n n).1 refl)
           ∙ lower us w args' ms' gs' s a' b' g' now
           ∙ ap (λ t. number (cond t (descend bits apps function j (args' ++ (ms' ++ gs'))) (apps c.name (args' ++ (ms' ++ gs')))))
-            (sym (used (args' ++ (ms' ++ gs')) (counts us w args' ms' gs' s a' b' g')))
+          (sym (used (args' ++ (ms' ++ gs')) (counts us w args' ms' gs' s a' b' g')))

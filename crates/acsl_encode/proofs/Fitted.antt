@@ -217,9 +217,9 @@ called_fits r None xs good h n = tt
 called_fits r (Some c) xs good h n =
     on_one AllGiven (λ ts. unbounded (encode.app c.name ts)) (encode.all_given r c xs)
     (put_given (encode.arguments c.params xs) _ (arguments_given c.params xs h)
-      (put_given (all_put (encode.memory_of r.here) c.memories) (all_put (encode.global_of r.common.model r.here) c.globals)
-        (all_put_given (encode.memory_of r.here) c.memories (memory_given r.here good.here))
-        (all_put_given (encode.global_of r.common.model r.here) c.globals (global_given r.common.model r.here good.here))))
+    (put_given (all_put (encode.memory_of r.here) c.memories) (all_put (encode.global_of r.common.model r.here) c.globals)
+    (all_put_given (encode.memory_of r.here) c.memories (memory_given r.here good.here))
+    (all_put_given (encode.global_of r.common.model r.here) c.globals (global_given r.common.model r.here good.here))))
     (λ ts. app_fits c.name ts n)
 
 if_there : {X : Type 0} (p : X → Type 0) (o : Option X) → ((x : X) → o ≡ Some x → p x) → Holds p o
@@ -310,7 +310,7 @@ valid_fits x writable ks o (reading.address b e) n h k =
 valid_fits x writable ks o (reading.elements b e size low high) n h k =
     on_one IsTable (λ t. reading.truth (over (th.Forall x) (record { low = low; high = encode.one_more high }) (all_of (cells t)))) o h
     (λ t f. forall_fits x n (record { low = low; high = encode.one_more high }) (all_of (cells t)) (k.2, high_fits false high k.3)
-      (all_of_fits (cells t) (cells_fit writable t b (encode.element_at e size (var x)) ks 0 f k.0 place)))
+    (all_of_fits (cells t) (cells_fit writable t b (encode.element_at e size (var x)) ks 0 f k.0 place)))
   where
     cells : Term → List Term
     cells t = encode.good_cells writable t b (encode.element_at e size (var x)) ks 0

@@ -158,9 +158,10 @@ module _ (q : Logic) (r : Reading) (env : Values) where
   either_means (reading.truth f) (integer l t) c u v w e h k = two_numbers c (truth_term f) t u v w e (h ∙ truth_is (F f)) k.0
   either_means (integer l t) (integer l' t') c u v w e h k = two_numbers c t t' u v w e h.0 k.0
   either_means (integer l t) (reading.truth f) c u v w e h k = two_numbers c t (truth_term f) u v w e h.0 (k ∙ truth_is (F f))
-  either_means (address b o) (address b' o') c u v w e h k =
-      (chosen_is c u v w (state.pointer (N b) (N o)) (state.pointer (N b') (N o')) e h.0 k.0 ∙ chosen_pointer (F c) (N b) (N o) (N b') (N o'),
-      chosen_address (F c) (N b) (N b') h.1 k.1)
+  either_means (address b o) (address b' o') c u v w e h k = (
+    chosen_is c u v w (state.pointer (N b) (N o)) (state.pointer (N b') (N o')) e h.0 k.0 ∙ chosen_pointer (F c) (N b) (N o) (N b') (N o'),
+    chosen_address (F c) (N b) (N b') h.1 k.1,
+  )
   either_means (reading.truth f) (address b o) c u v w e h k = tt
   either_means (reading.truth f) (variable x) c u v w e h k = tt
   either_means (reading.truth f) (elements b o n i j) c u v w e h k = tt

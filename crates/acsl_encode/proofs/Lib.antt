@@ -21,3 +21,4 @@ pub mod Descending
 pub mod Settings
 pub mod Cells
 pub mod Examples
+pub mod Told

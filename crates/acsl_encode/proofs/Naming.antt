@@ -80,9 +80,9 @@ binders_differ names lack i j e =
     ⊎_elim
     (λ less. absurd (let before = comes_before names i j parts.0 less in omega (arith, before, counts)))
     (λ not_less. ⊎_elim
-      (λ less. absurd (let before = comes_before names j i (sym parts.0) less in omega (arith, before, counts)))
-      (λ neither. omega (arith, not_less, neither))
-      (either_way j i))
+    (λ less. absurd (let before = comes_before names j i (sym parts.0) less in omega (arith, before, counts)))
+    (λ neither. omega (arith, not_less, neither))
+    (either_way j i))
     (either_way i j)
   where
     either_way : (i j : ℕ) → (i < j) ⊎ (j ≤ i)

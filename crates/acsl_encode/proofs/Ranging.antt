@@ -94,8 +94,8 @@ module _ (q : Logic) (r : Common) (env : Values) where
   every_means x low high test (Some e) (Some f) h body =
       let n = length_is low high e h in
       ap state.truth (
-        all_same low (to_nat ((high -ℤ low) +ℤ pos 1)) test (λ z. is_so_in q (with_int env x z) f) (λ z le lt. body z le (last_is low high z le lt))
-        ∙ (λ i. all_from (sym h.0 i) (to_nat (sym n i)) (λ z. is_so_in q (with_int env x z) f))
+      all_same low (to_nat ((high -ℤ low) +ℤ pos 1)) test (λ z. is_so_in q (with_int env x z) f) (λ z le lt. body z le (last_is low high z le lt))
+      ∙ (λ i. all_from (sym h.0 i) (to_nat (sym n i)) (λ z. is_so_in q (with_int env x z) f))
       )
   every_means x low high test (Some e) None h body = tt
   every_means x low high test None o' h body = tt
@@ -105,8 +105,8 @@ module _ (q : Logic) (r : Common) (env : Values) where
   some_means x low high test (Some e) (Some f) h body =
       let n = length_is low high e h in
       ap state.truth (
-        some_same low (to_nat ((high -ℤ low) +ℤ pos 1)) test (λ z. is_so_in q (with_int env x z) f) (λ z le lt. body z le (last_is low high z le lt))
-        ∙ (λ i. some_from (sym h.0 i) (to_nat (sym n i)) (λ z. is_so_in q (with_int env x z) f))
+      some_same low (to_nat ((high -ℤ low) +ℤ pos 1)) test (λ z. is_so_in q (with_int env x z) f) (λ z le lt. body z le (last_is low high z le lt))
+      ∙ (λ i. some_from (sym h.0 i) (to_nat (sym n i)) (λ z. is_so_in q (with_int env x z) f))
       )
   some_means x low high test (Some e) None h body = tt
   some_means x low high test None o' h body = tt

@@ -125,12 +125,13 @@ module _ (names : Spelled) (r : Common) (told : ℕ → Called) (ds : List Defin
   differs : (n f : ℕ) (c : Called) → known n f ≡ Some c → (eqb f n ≡ false) × (bytes_eq c.name (told n).name ≡ false)
   differs n f c h =
       let e = facts n f c h in
-      let apart : f ≡ n → ⊥ = λ p. omega (arith, p, e.before) in
-      (⊎_elim (λ yes. absurd (apart (eqb-true f n yes))) (λ no. no) (cases_Bool (eqb f n)),
+      let apart : f ≡ n → ⊥ = λ p. omega (arith, p, e.before) in (
+        ⊎_elim (λ yes. absurd (apart (eqb-true f n yes))) (λ no. no) (cases_Bool (eqb f n)),
         ⊎_elim
-        (λ yes. absurd (apart (good.differ f n (ap (λ (d : Called). d.name) e.called ∙ (bytes_eq-Decides c.name (told n).name).0 yes))))
-        (λ no. no)
-        (cases_Bool (bytes_eq c.name (told n).name)))
+            (λ yes. absurd (apart (good.differ f n (ap (λ (d : Called). d.name) e.called ∙ (bytes_eq-Decides c.name (told n).name).0 yes))))
+            (λ no. no)
+            (cases_Bool (bytes_eq c.name (told n).name)),
+      )
 
   abbrev Stand : ℕ → Type 0
   Stand n = (f : ℕ) (c : Called) → known n f ≡ Some c → CallStands (apps n) (calls_first ds n) r f c
@@ -225,7 +226,7 @@ module _ (names : Spelled) (r : Common) (told : ℕ → Called) (ds : List Defin
           let same : told n ≡ c = cc in
           subst (λ q. CallStands q (calls_first ds (suc n)) r f c) (sym (apps_more bits no_apps (logic_first r told ds n) l))
           (subst (λ d. CallStands (after bits (apps n) l) (calls_first ds (suc n)) r f d) same
-            (subst (λ k. CallStands (after bits (apps n) l) (calls_first ds (suc n)) r k (told n)) (sym is) (own_stands n before recursive l made)))
+          (subst (λ k. CallStands (after bits (apps n) l) (calls_first ds (suc n)) r k (told n)) (sym is) (own_stands n before recursive l made)))
       by true recursive (Some l) made false so h before =
           subst (λ q. CallStands q (calls_first ds (suc n)) r f c) (sym (apps_more bits no_apps (logic_first r told ds n) l))
           (other_stands n f c (after bits (apps n) l) h (after_other n f c l h (made_named n l made)) before)

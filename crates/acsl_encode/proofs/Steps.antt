@@ -92,7 +92,7 @@ module _ (q : Logic) (m : Calls) (r : Reading) (known : Known) (n x : ℕ) (c : 
           let at : number_of (last_of (all_meant ks)) ≡ number_of (vals x) -ℤ pos 1 = ap number_of (last_value m vals d w ks) ∙ less_value m vals d w x (last_kid ks) less in
           subst (λ b. Means q r.common env (encode.called r (if b then Some c else known f) (all_terms i ks)) (m f (all_meant ks) w)) (sym so)
           (subst (λ g. Means q r.common env (encode.called r (Some c) (all_terms i ks)) (m g (all_meant ks) w)) (sym is)
-            (call_means q env r w stands good m n c (all_terms i ks) (all_meant ks) h fits (own (all_meant ks) at)))
+          (call_means q env r w stands good m n c (all_terms i ks) (all_meant ks) h fits (own (all_meant ks) at)))
 
       by_known : eqb f n ≡ false → (o : Option Called) → known f ≡ o → Means q r.common env (encode.called r o (all_terms i ks)) (m f (all_meant ks) w)
       by_known not_so None e = tt

@@ -152,9 +152,9 @@ pub record Pointers : Type 0 where
   pub valid : IsFormula (one (h.Valid (content.Integer kind.Int) true) (one h.Pointed p_read)) (cell_of (form.Write (cell.Of kind.Int)) p_offset)
   pub elements : IsFormula (two h.And (one (h.Every (range.Kind kind.Bool)) (is_five (leaf (h.Name 0)))) (one (h.Valid (content.Struct 0) false) (three (h.Behind 2) p_read (spelled 0) x_read)))
       (and_of (tree.node (th.Forall (codes "k!1")) (tree.three (num (pos 0)) (num (pos 2)) (five k_one))
-        ∷ tree.node (th.Forall (codes "k!2")) (tree.three (num (pos 0)) (op_two op.Add x_term (num (pos 1))) (and_of (
-          cell_of (form.Read (cell.Of kind.Int)) (op_two op.Add p_offset (op_two op.Mul (num (pos 2)) k_two))
-          ∷ cell_of (form.Read cell.Ptr) (op_two op.Add (op_two op.Add p_offset (op_two op.Mul (num (pos 2)) k_two)) (num (pos 1))) ∷ []))) ∷ []))
+      ∷ tree.node (th.Forall (codes "k!2")) (tree.three (num (pos 0)) (op_two op.Add x_term (num (pos 1))) (and_of (
+      cell_of (form.Read (cell.Of kind.Int)) (op_two op.Add p_offset (op_two op.Mul (num (pos 2)) k_two))
+      ∷ cell_of (form.Read cell.Ptr) (op_two op.Add (op_two op.Add p_offset (op_two op.Mul (num (pos 2)) k_two)) (num (pos 1))) ∷ []))) ∷ []))
   pub call : IsTerm (one (h.Call 0) x_read)
       (tree.node (th.App (codes "f")) (tree.trees_of (x_term ∷ memory_var (codes "M:int") ∷ memory_var (codes "M:ptrb") ∷ memory_var (codes "M:ptro") ∷ [])))
 

@@ -8,3 +8,4 @@ pub mod WellFormed
 pub mod Setting
 pub mod Regular
 pub mod Examples
+pub mod Told

@@ -3,6 +3,7 @@ ghost use Rattle.acsl_encode.specs.Binders.{BindersDiffer};
 ghost use Rattle.acsl_encode.specs.Examples.{ExamplesHold};
 ghost use Rattle.acsl_encode.specs.Laws.{FormulasMean};
 ghost use Rattle.acsl_encode.specs.Regular.{SettingStands};
+ghost use Rattle.acsl_encode.specs.Told.{ReadsAreGiven};
 ghost use Rattle.acsl_encode.specs.WellFormed.{FormulasFit};
 
 /// Each binder of a clause has a name of its own.
@@ -28,4 +29,9 @@ pub fn setting_stands()
 /// What a number of annotations become, word for word.
 pub fn examples_hold()
     ensures { ExamplesHold }
+{}
+
+/// A logic function is given the memories that its body reads.
+pub fn reads_are_given()
+    ensures { ReadsAreGiven }
 {}

@@ -3,4 +3,6 @@
 
 mod laws;
 
-pub use laws::{binders_differ, examples_hold, formulas_fit, formulas_mean, setting_stands};
+pub use laws::{
+    binders_differ, examples_hold, formulas_fit, formulas_mean, reads_are_given, setting_stands,
+};

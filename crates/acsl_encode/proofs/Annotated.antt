@@ -66,7 +66,8 @@ module _ (q : Logic) (m : truth.Calls) where
 
   let_meant : (ks : Trees) → AllMeant ks → Meant (node hd.Let ks)
   let_meant ks h c =
-      let first : (env' : Values) → Later c.r.common.binder c.i c.env env' → Means q c.r.common env' (terms_at (all_terms c ks) 0) (truth.first (all_meant c ks))
+      let first : (env' : Values) → Later c.r.common.binder c.i c.env env' → Means q c.r.common env' (terms_at (all_terms c ks) 0)
+      (truth.first (all_meant c ks))
       = λ env' l. kid_means q c.r.common env' (all_terms c ks) (all_meant c ks) 0 (h (at_values q m c env' l)) in
       let inside = under_let q m c (terms_at (all_terms c ks) 0) (truth.first (all_meant c ks)) (kid_fits (all_terms c ks) 0 (all_fit c ks)) first in
       last_means q c.r.common c.env (all_terms inside ks) (all_meant inside ks) (h inside)
@@ -110,16 +111,20 @@ module _ (q : Logic) (m : truth.Calls) where
 
   every_meant : (g : Range) (ks : Trees) → AllMeant ks → Meant (node (hd.Every g) ks)
   every_meant g ks h c =
-      subst (λ k. Means q c.r.common c.env (terms c (node (hd.Every g) ks)) (state.truth (state.every_between (least k g (all_meant c ks)) (greatest k g (all_meant c ks)) (test g ks h c))))
+      subst (λ k. Means q c.r.common c.env (terms c (node (hd.Every g) ks)) (state.truth
+      (state.every_between (least k g (all_meant c ks)) (greatest k g (all_meant c ks)) (test g ks h c))))
       (same_model c)
-      (every_means q c.r.common c.env (c.r.common.binder c.i) (low g ks h c) (high g ks h c) (test g ks h c) (ends_of c.r.common.model g (all_encoded c.r c.ns (suc c.i) c.d ks))
+      (every_means q c.r.common c.env (c.r.common.binder c.i) (low g ks h c) (high g ks h c) (test g ks h c)
+      (ends_of c.r.common.model g (all_encoded c.r c.ns (suc c.i) c.d ks))
       (as_formula (body g ks h c)) (ends_hold g ks h c) (body_holds g ks h c))
 
   some_meant : (g : Range) (ks : Trees) → AllMeant ks → Meant (node (hd.Some g) ks)
   some_meant g ks h c =
-      subst (λ k. Means q c.r.common c.env (terms c (node (hd.Some g) ks)) (state.truth (state.some_between (least k g (all_meant c ks)) (greatest k g (all_meant c ks)) (test g ks h c))))
+      subst (λ k. Means q c.r.common c.env (terms c (node (hd.Some g) ks)) (state.truth
+      (state.some_between (least k g (all_meant c ks)) (greatest k g (all_meant c ks)) (test g ks h c))))
       (same_model c)
-      (some_means q c.r.common c.env (c.r.common.binder c.i) (low g ks h c) (high g ks h c) (test g ks h c) (ends_of c.r.common.model g (all_encoded c.r c.ns (suc c.i) c.d ks))
+      (some_means q c.r.common c.env (c.r.common.binder c.i) (low g ks h c) (high g ks h c) (test g ks h c)
+      (ends_of c.r.common.model g (all_encoded c.r c.ns (suc c.i) c.d ks))
       (as_formula (body g ks h c)) (ends_hold g ks h c) (body_holds g ks h c))
 
   -- ---- all nodes
@@ -138,9 +143,11 @@ module _ (q : Logic) (m : truth.Calls) where
 
   valid_meant : (k : Content) (writable : Bool) (ks : Trees) → AllMeant ks → Meant (node (hd.Valid k writable) ks)
   valid_meant k writable ks h c =
-      subst (λ cells. Means q c.r.common c.env (terms c (node (hd.Valid k writable) ks)) (state.truth (state.is_valid writable c.w.here.blocks cells (state.span_of (truth.first (all_meant c ks))))))
+      subst (λ cells. Means q c.r.common c.env (terms c (node (hd.Valid k writable) ks))
+      (state.truth (state.is_valid writable c.w.here.blocks cells (state.span_of (truth.first (all_meant c ks))))))
       (same_cells c.r.common c.w k (here c).structs)
-      (valid_means q c.r c.env x writable (encode.content_cells c.r.common k) c.r.here.table (terms_at (all_terms (kids c) ks) 0) (truth.first (all_meant c ks)) c.w.here.blocks
+      (valid_means q c.r c.env x writable (encode.content_cells c.r.common k) c.r.here.table (terms_at (all_terms (kids c) ks) 0)
+      (truth.first (all_meant c ks)) c.w.here.blocks
       (kid_means q c.r.common c.env (all_terms (kids c) ks) (all_meant c ks) 0 (h (kids c))) ((here c).here.table)
       (λ z. kid_means q c.r.common (with_int c.env x z) (all_terms (kids c) ks) (all_meant c ks) 0 (h (kids (bound z)))) (λ z. (here (bound z)).here.table)
       (λ z. this_int c.env x z))

@@ -120,7 +120,8 @@ module _ (q : Logic) (m : truth.Calls) where
     good = moved_reading k c.r c.good;
   }
 
-  pub named_fits : (c : Around) (x : Terms) (v : Value) (env' : Values) → Means q c.r.common env' x v → ((y : ℕ) → Means q c.r.common env' (c.ns y) (c.values y))
+  pub named_fits : (c : Around) (x : Terms) (v : Value) (env' : Values) → Means q c.r.common env' x v →
+      ((y : ℕ) → Means q c.r.common env' (c.ns y) (c.values y))
       → (y : ℕ) → Means q c.r.common env' (with_name c.d x c.ns y) (truth.with_name c.d v c.values y)
   named_fits c x v env' h fits y = by (y == c.d)
     where
@@ -156,7 +157,8 @@ module _ (q : Logic) (m : truth.Calls) where
     bound_is env' l =
         l.ints (c.r.common.binder c.i) (λ n le e. let same = c.differ n c.i e in omega (arith, le, same)) ∙ this_int c.env (c.r.common.binder c.i) z
 
-    pub bound_means : (env' : Values) → Later c.r.common.binder (suc c.i) bound env' → Means q c.r.common env' (integer k (var (c.r.common.binder c.i))) (number z)
+    pub bound_means : (env' : Values) → Later c.r.common.binder (suc c.i) bound env' → Means q c.r.common env' (integer k (var (c.r.common.binder c.i)))
+        (number z)
     bound_means env' l = let e = sym (bound_is env' l) in (ap number e, subst (λ z. IsOfKind c.r.common.model k z) e is_kind)
 
     abbrev pub under_binder : Around

@@ -20,7 +20,8 @@ use Rattle.acsl_encode.specs.Readings.{Pointer, Named, one, two, Global, integer
 use Rattle.acsl_encode.specs.Readings as reading
 use Rattle.acsl_encode.specs.Meaning.{Holds, Means, HasAddress, NumbersHeld, PointersHeld, memory_in, SlotStands}
 use Rattle.acsl_encode.specs.Calls.{Given, IsArgument, AreArguments, AllAre, IsMemory, IsGlobal}
-use Rattle.acsl_encode.specs.Setting.{params_of, memory_params, global_params, all_params, names_of, terms_named, slot_in, numbers_in, pointers_in, memory_name, memory_var, memory_param, offsets_name}
+use Rattle.acsl_encode.specs.Setting.{params_of, memory_params, global_params, all_params, names_of, terms_named, slot_in, numbers_in, pointers_in}
+use Rattle.acsl_encode.specs.Setting.{memory_name, memory_var, memory_param, offsets_name}
 use Rattle.acsl_encode.proofs.Bound.{AllBound, both_arguments, split_bound}
 
 -- ---- counts and sorts of what is given

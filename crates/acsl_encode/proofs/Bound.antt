@@ -97,7 +97,8 @@ all_bound (p ∷ ps) (v ∷ vs) d a =
 
 -- ---- one list behind another one
 
-pub both_arguments : (ps qs : List Param) (args bs : Given) → are_arguments ps args ≡ true → are_arguments qs bs ≡ true → are_arguments (ps ++ qs) (args ++ bs) ≡ true
+pub both_arguments : (ps qs : List Param) (args bs : Given) → are_arguments ps args ≡ true → are_arguments qs bs ≡ true → are_arguments (ps ++ qs)
+    (args ++ bs) ≡ true
 both_arguments [] qs [] bs h k = k
 both_arguments [] qs (a ∷ args) bs h k = absurd (false≢true h)
 both_arguments (p ∷ ps) qs [] bs h k = absurd (false≢true h)

@@ -12,9 +12,11 @@ use Rattle.acsl_truth.specs.States.{Value, State, World}
 use Rattle.acsl_truth.specs.Truth.{Calls}
 use Rattle.qed_terms.specs.Tree.{Tree as Term, trees_of}
 use Rattle.qed_terms.specs.Meaning.{Values, World as Logic, Whole, Cells, meaning, meanings}
-use Rattle.acsl_encode.specs.Readings.{Pointer, at, Named, one, two, Global, integer_global, pointer_global, Called, Terms, Slot, whole, pointer, home, absent, Seen, Common, Reading}
+use Rattle.acsl_encode.specs.Readings.{Pointer, at, Named, one, two, Global, integer_global, pointer_global, Called, Terms, Slot, whole, pointer, home}
+use Rattle.acsl_encode.specs.Readings.{absent, Seen, Common, Reading}
 use Rattle.acsl_encode.specs.Encode as encode
-use Rattle.acsl_encode.specs.Encode.{as_integer, as_pointer, put, all_put, two_parts, argument, arguments, memory_of, integer_of, pointer_in, global_of, all_given, unbounded, app}
+use Rattle.acsl_encode.specs.Encode.{as_integer, as_pointer, put, all_put, two_parts, argument, arguments, memory_of, integer_of, pointer_in, global_of}
+use Rattle.acsl_encode.specs.Encode.{all_given, unbounded, app}
 use Rattle.acsl_encode.specs.Meaning.{Holds, number_in, memory_in, Means, NumbersHeld, PointersHeld, SlotStands, SeenStands, Stands}
 use Rattle.acsl_encode.specs.Calls.{Given, IsArgument, AreArguments, AllAre, HoldsHidden, IsGlobal, Shares, CallStands}
 use Rattle.acsl_encode.specs.Calls as calls
@@ -43,7 +45,8 @@ module _ (q : Logic) (env : Values) where
   put_give p p' r (Some ts) None h k made = tt
   put_give p p' r None o' h k made = tt
 
-  give_one : {X : Type 0} (u u' : X → Type 0) (f : X → List Term) (p : Given → Type 0) (o : Option X) → Holds u o → Holds u' o → ((x : X) → u x → u' x → p (V (f x)))
+  give_one : {X : Type 0} (u u' : X → Type 0) (f : X → List Term) (p : Given → Type 0) (o : Option X) → Holds u o → Holds u' o →
+      ((x : X) → u x → u' x → p (V (f x)))
       → Give p (option_map f o)
   give_one u u' f p (Some x) h k made = made x h k
   give_one u u' f p None h k made = tt
@@ -61,7 +64,8 @@ module _ (q : Logic) (env : Values) where
       give_one (IsPointer q r env v) PointerFits two_parts (IsArgument (two b o) v) (as_pointer x) (as_address q r env x v h) (pointer_fits x k)
       (λ p e f. (number_in q env p.block, number_in q env p.offset, e.0, e.1, two_means p f))
 
-  arguments_give : (r : Common) (ps : List Named) (xs : List Terms) (vs : List Value) → AllMean q r env xs vs → AllFit xs → Give (AreArguments ps vs) (arguments ps xs)
+  arguments_give : (r : Common) (ps : List Named) (xs : List Terms) (vs : List Value) → AllMean q r env xs vs → AllFit xs → Give (AreArguments ps vs)
+      (arguments ps xs)
   arguments_give r [] [] [] h k = refl
   arguments_give r [] [] (v ∷ vs) h k = absurd h
   arguments_give r [] (x ∷ xs) vs h k = tt
@@ -80,14 +84,16 @@ module _ (q : Logic) (env : Values) where
   module _ (r : Common) (s : Seen) (st : State) (h : SeenStands q r env s st) (f : SeenFits s) where
     memory_gives : (k : CellKind) → Give (calls.IsMemory r.model st k) (memory_of s k)
     memory_gives (cell.Of k) =
-        give_one (λ t. NumbersHeld r.model k (memory_in q env t) st) IsMemory (λ m. m ∷ []) (calls.IsMemory r.model st (cell.Of k)) (s.numbers k) (h.numbers k) (f.numbers k)
+        give_one (λ t. NumbersHeld r.model k (memory_in q env t) st) IsMemory (λ m. m ∷ []) (calls.IsMemory r.model st (cell.Of k)) (s.numbers k)
+        (h.numbers k) (f.numbers k)
         (λ t e k. (memory_in q env t, e, ap (λ a. a ∷ []) (memory_means q env t k.memory)))
     memory_gives cell.Ptr =
         give_one (λ p. PointersHeld (memory_in q env p.block) (memory_in q env p.offset) st) (λ p. IsMemory p.block × IsMemory p.offset) two_parts
         (calls.IsMemory r.model st cell.Ptr) s.pointers h.pointers f.pointers
         (λ p e k. (memory_in q env p.block, memory_in q env p.offset, e, both_memories p k))
       where
-        both_memories : (p : Pointer) → IsMemory p.block × IsMemory p.offset → V (two_parts p) ≡ Cells (memory_in q env p.block) ∷ Cells (memory_in q env p.offset) ∷ []
+        both_memories : (p : Pointer) → IsMemory p.block × IsMemory p.offset → V (two_parts p) ≡ Cells (memory_in q env p.block) ∷ Cells
+            (memory_in q env p.offset) ∷ []
         both_memories p k = let b = memory_means q env p.block k.0.memory in let o = memory_means q env p.offset k.1.memory in λ i. b i ∷ o i ∷ []
 
     integer_gives : (n : ℕ) (k : Kind) (x : List ℕ) (o : Slot) → SlotStands q r env (variables.Global n) o st → SlotFits o
@@ -102,7 +108,8 @@ module _ (q : Logic) (env : Values) where
     integer_gives n k x (home b) e g = tt
     integer_gives n k x absent e g = tt
 
-    pointer_gives : (n : ℕ) (x y : List ℕ) (o : Slot) → SlotStands q r env (variables.Global n) o st → SlotFits o → Give (IsGlobal r st (pointer_global n x y)) (pointer_in o)
+    pointer_gives : (n : ℕ) (x y : List ℕ) (o : Slot) → SlotStands q r env (variables.Global n) o st → SlotFits o → Give
+        (IsGlobal r st (pointer_global n x y)) (pointer_in o)
     pointer_gives n x y (whole l t) e g = tt
     pointer_gives n x y (pointer b o) e g =
         (number_in q env b, number_in q env o, (e.0, e.1.0), e.1.1, two_means (at b o) g)
@@ -110,8 +117,10 @@ module _ (q : Logic) (env : Values) where
     pointer_gives n x y absent e g = tt
 
     global_gives : (g : Global) → Give (IsGlobal r st g) (global_of r.model s g)
-    global_gives (integer_global n k x) = integer_gives n k x (s.variable (variables.Global n)) (h.variables (variables.Global n)) (f.variables (variables.Global n))
-    global_gives (pointer_global n x y) = pointer_gives n x y (s.variable (variables.Global n)) (h.variables (variables.Global n)) (f.variables (variables.Global n))
+    global_gives (integer_global n k x) = integer_gives n k x (s.variable (variables.Global n)) (h.variables (variables.Global n))
+        (f.variables (variables.Global n))
+    global_gives (pointer_global n x y) = pointer_gives n x y (s.variable (variables.Global n)) (h.variables (variables.Global n))
+        (f.variables (variables.Global n))
 
   -- ---- calls
 
@@ -140,4 +149,5 @@ module _ (q : Logic) (env : Values) where
         (λ ts e. (e, tt))
       where
         Rest : Given → Type 0
-        Rest b = (ms : Given) × (gs : Given) × AllAre (calls.IsMemory r.common.model w.here) c.memories ms × AllAre (IsGlobal r.common w.here) c.globals gs × (b ≡ ms ++ gs)
+        Rest b = (ms : Given) × (gs : Given) × AllAre (calls.IsMemory r.common.model w.here) c.memories ms × AllAre (IsGlobal r.common w.here) c.globals gs ×
+            (b ≡ ms ++ gs)

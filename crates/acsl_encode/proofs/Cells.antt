@@ -29,10 +29,12 @@ module _ (q : Logic) (r : Reading) where
   cell_is env false k t b o = refl
 
   cells_are : (env : Values) (writable : Bool) (t b o : Term) (ks : List CellKind) (n : ℕ)
-      → are_good_cells writable (table_in q env t) ks (number_in q env b) (number_in q env o +ℤ pos n) ≡ each_true (map (is_so_in q env) (good_cells writable t b o ks n))
+      → are_good_cells writable (table_in q env t) ks (number_in q env b) (number_in q env o +ℤ pos n) ≡ each_true
+      (map (is_so_in q env) (good_cells writable t b o ks n))
   cells_are env writable t b o [] n = refl
   cells_are env writable t b o (k ∷ ks) n =
-      let here = ap (is_good_cell writable (table_in q env t) k (number_in q env b)) (further_is q r.common env n o) ∙ cell_is env writable k t b (further n o) in
+      let here = ap (is_good_cell writable (table_in q env t) k (number_in q env b)) (further_is q r.common env n o) ∙ cell_is env writable k t b
+      (further n o) in
       let next : (number_in q env o +ℤ pos n) +ℤ pos 1 ≡ number_in q env o +ℤ pos (suc n) = omega (arith, ints) in
       let rest = ap (are_good_cells writable (table_in q env t) ks (number_in q env b)) next ∙ cells_are env writable t b o ks (suc n) in
       λ i. here i && rest i
@@ -56,8 +58,10 @@ module _ (q : Logic) (r : Reading) where
 
   range_valid : (env : Values) (x : List ℕ) (writable : Bool) (t b o : Term) (size : ℕ) (low high : Term) (ks : List CellKind) (v : Value) (blocks : Table)
       → RangeAt env b o size low high v
-      → ((z : ℤ) → RangeAt (with_int env x z) b o size low high v) → ((z : ℤ) → table_in q (with_int env x z) t ≡ blocks) → ((z : ℤ) → (with_int env x z).ints x ≡ z)
-      → Means q r.common env (quantified (th.Forall x) (Some (record { low = low; high = one_more high })) (Some (all_of (good_cells writable t b (element_at o size (var x)) ks 0))))
+      → ((z : ℤ) → RangeAt (with_int env x z) b o size low high v) → ((z : ℤ) → table_in q (with_int env x z) t ≡ blocks) →
+      ((z : ℤ) → (with_int env x z).ints x ≡ z)
+      → Means q r.common env (quantified (th.Forall x) (Some (record { low = low; high = one_more high }))
+      (Some (all_of (good_cells writable t b (element_at o size (var x)) ks 0))))
       (state.truth (is_valid writable blocks ks (span_of v)))
   range_valid env x writable t b o size low high ks v blocks h later table bound =
       every_means q r.common env x (span_of v).low (span_of v).high (λ i. are_good_cells writable blocks ks (span_of v).block (address_at (span_of v) i))
@@ -70,7 +74,8 @@ module _ (q : Logic) (r : Reading) where
       each z =
           let e = with_int env x z in
           let at : address_at (span_of v) z ≡ number_in q e (element_at o size (var x)) =
-          ap (λ v. address_at (span_of v) z) (later z) ∙ ap (λ k. number_in q e o +ℤ k) (ap (λ y. pos size *ℤ y) (sym (bound z)) ∙ times_is q r.common e size (var x))
+          ap (λ v. address_at (span_of v) z) (later z) ∙ ap (λ k. number_in q e o +ℤ k)
+          (ap (λ y. pos size *ℤ y) (sym (bound z)) ∙ times_is q r.common e size (var x))
           ∙ sym (sum_two (number_in q e o) (number_in q e (times size (var x)))) in
           (λ i. are_good_cells writable (sym (table z) i) ks (span_of (later z i)).block (at i)) ∙ good_at e writable t b (element_at o size (var x)) ks
 

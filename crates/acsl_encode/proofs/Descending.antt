@@ -25,7 +25,8 @@ use Rattle.acsl_encode.specs.Meaning.{Holds, number_in, Means, Stands}
 use Rattle.acsl_encode.specs.Binders.{Spelled, numbered, AllLack, Differ, Later}
 use Rattle.acsl_encode.specs.Calls.{Given, AreArguments, AllAre, IsMemory, IsGlobal, Shares, CallStands}
 use Rattle.acsl_encode.specs.WellFormed.{IsInt}
-use Rattle.acsl_encode.specs.Setting.{params_of, memory_params, global_params, all_params, params_in, names_of, Known, body_reading, body_term, with_called, function_of}
+use Rattle.acsl_encode.specs.Setting.{params_of, memory_params, global_params, all_params, params_in, names_of, Known, body_reading, body_term, with_called}
+use Rattle.acsl_encode.specs.Setting.{function_of}
 use Rattle.acsl_encode.specs.Regular.{CalledFits}
 use Rattle.acsl_encode.proofs.Operands.{IsNumber, as_number}
 use Rattle.acsl_encode.proofs.Naming.{binders_differ}
@@ -75,7 +76,8 @@ front_length (p ∷ front) y = ap suc (front_length front y)
 
 -- ---- the function
 
-module _ (names : Spelled) (lack : AllLack names) (r : Common) (binders_are : (k : ℕ) → r.binder k ≡ numbered names k) (binders_fit : (k : ℕ) → IsInt (var (r.binder k)))
+module _ (names : Spelled) (lack : AllLack names) (r : Common) (binders_are : (k : ℕ) → r.binder k ≡ numbered names k)
+    (binders_fit : (k : ℕ) → IsInt (var (r.binder k)))
     (known : Known) (known_names : (f : ℕ) (e : Called) → known f ≡ Some e → is_name e.name ≡ true)
     (n : ℕ) (c : Called) (fits : CalledFits c) (front : List Named) (last : List ℕ) (params : c.params ≡ front ++ one last ∷ [])
     (cut : ℤ) (base step : Tree) (goes : goes_down n (length front) step ≡ true) (tb ts : Term) (is_base : body_term r known c base ≡ Some tb)
@@ -116,7 +118,8 @@ module _ (names : Spelled) (lack : AllLack names) (r : Common) (binders_are : (k
   -- calls of other functions are as they were
   others : (j f : ℕ) (e : Called) (q : Apps) → known f ≡ Some e → ((vals : Given) → q e.name vals ≡ apps e.name vals) → CallStands q (below j) r f e
   others j f e q h same vs w args ms gs s a b g =
-      ap (λ t. if t then stepped m n body j vs w else m f vs w) (other f e h).0 ∙ stands f e h vs w args ms gs s a b g ∙ ap number (sym (same (args ++ (ms ++ gs))))
+      ap (λ t. if t then stepped m n body j vs w else m f vs w) (other f e h).0 ∙ stands f e h vs w args ms gs s a b g ∙ ap number
+      (sym (same (args ++ (ms ++ gs))))
 
   other_apps : (f j : ℕ) (e : Called) → known f ≡ Some e → (vals : Given) → apps_below j e.name vals ≡ apps e.name vals
   other_apps f j e h vals =
@@ -148,7 +151,8 @@ module _ (names : Spelled) (lack : AllLack names) (r : Common) (binders_are : (k
         let all = later_bound names r binders_are env env' l c fits vals (all_bound (params_in c) vals fits.differ counts) in
         let one = split_bound env' (all_params params_of c.params) (all_params memory_params c.memories ++ all_params global_params c.globals) args (ms ++ gs)
         (arguments_count c.params vs args are) all in
-        let two = split_bound env' (all_params memory_params c.memories) (all_params global_params c.globals) ms gs (memories_count r w.here c.memories ms memories) one.1 in
+        let two = split_bound env' (all_params memory_params c.memories) (all_params global_params c.globals) ms gs
+        (memories_count r w.here c.memories ms memories) one.1 in
         record { of_params = one.0; of_memories = two.0; of_globals = two.1 }
 
     stands_then : (q : Apps) (known' : Known) (env' : Values) → Later r.binder 0 env env' → Stands (logic q) (body_reading r known' c) env' w
@@ -182,7 +186,8 @@ module _ (names : Spelled) (lack : AllLack names) (r : Common) (binders_are : (k
     arm_is q known' m' t u e means =
         ap (λ d. value m' (named vs) d w t) (sym (count_same c.params vs args are))
         ∙ there (IsNumber (logic q) r env (value m' (named vs) (length c.params) w t)) (body_term r known' c t) u
-        (as_number (logic q) r env (encoded (body_reading r known' c) (names_of c.params) 0 (length c.params) t) (value m' (named vs) (length c.params) w t) means) e
+        (as_number (logic q) r env (encoded (body_reading r known' c) (names_of c.params) 0 (length c.params) t)
+        (value m' (named vs) (length c.params) w t) means) e
 
     base_value : to_nat (number_of (value_at vs x) -ℤ cut) ≡ 0 → stepped m n body 1 vs w ≡ number (descend bits apps function 0 vals)
     unfolding descend base_around
@@ -198,12 +203,15 @@ module _ (names : Spelled) (lack : AllLack names) (r : Common) (binders_are : (k
         → AllAre (IsMemory r.model w.here) c.memories ms' → AllAre (IsGlobal r w.here) c.globals gs'
         → below (suc j) n us w ≡ number (apps_below j c.name (args' ++ (ms' ++ gs')))
 
-    step_value : (j : ℕ) → int_le (number_of (value_at vs x)) cut ≡ false → Own j → stepped m n body (suc (suc j)) vs w ≡ number (descend bits apps function (suc j) vals)
+    step_value : (j : ℕ) → int_le (number_of (value_at vs x)) cut ≡ false → Own j → stepped m n body (suc (suc j)) vs w ≡ number
+        (descend bits apps function (suc j) vals)
     unfolding descend
     step_value j above own =
-        chosen_step (int_le (number_of (value_at vs x)) cut) (value (below (suc j)) (named vs) (length vs) w base) (value (below (suc j)) (named vs) (length vs) w step) above
+        chosen_step (int_le (number_of (value_at vs x)) cut) (value (below (suc j)) (named vs) (length vs) w base)
+        (value (below (suc j)) (named vs) (length vs) w step) above
         ∙ arm_is (apps_below j) (with_called n (Some c) known) (below (suc j)) step ts is_step
-        (step_means (logic (apps_below j)) (below (suc j)) (body_reading r (with_called n (Some c) known) c) known n x c env w (names_of c.params) (named vs) (length c.params)
+        (step_means (logic (apps_below j)) (below (suc j)) (body_reading r (with_called n (Some c) known) c) known n x c env w (names_of c.params) (named vs)
+        (length c.params)
         (stands_then (apps_below j) (with_called n (Some c) known) env (later_same r.binder 0 env))
         (body_fits r (with_called n (Some c) known) c fits binders_fit step_names) (names_fit c.params fits.params)
         (named_then (apps_below j) (with_called n (Some c) known) env (later_same r.binder 0 env)) (λ f. refl)
@@ -229,7 +237,8 @@ module _ (names : Spelled) (lack : AllLack names) (r : Common) (binders_are : (k
       own less lower us at args' ms' gs' a' b' g' =
           let long : length us ≡ suc x = sym (count_same c.params us args' a') ∙ ap length params ∙ front_length front last in
           let place : length us - 1 ≡ x = omega (arith, long) in
-          let now : to_nat (number_of (value_at us x) -ℤ cut) ≡ j = ap (λ k. to_nat (number_of (value_at us k) -ℤ cut)) (sym place) ∙ ap (λ z. to_nat (z -ℤ cut)) at ∙ less in
+          let now : to_nat (number_of (value_at us x) -ℤ cut) ≡ j = ap (λ k. to_nat (number_of (value_at us k) -ℤ cut)) (sym place) ∙ ap
+          (λ z. to_nat (z -ℤ cut)) at ∙ less in
           ap (λ t. if t then stepped m n body (suc j) us w else m n us w) ((Decides-eqb n n).1 refl)
           ∙ lower us w args' ms' gs' s a' b' g' now
           ∙ ap (λ t. number (cond t (descend bits apps function j (args' ++ (ms' ++ gs'))) (apps c.name (args' ++ (ms' ++ gs')))))

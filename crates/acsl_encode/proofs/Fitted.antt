@@ -25,12 +25,17 @@ use Rattle.wp_base.specs.declared.kinds.CellKind.{CellKind}
 use Rattle.wp_base.specs.declared.kinds.CellKind.TheVariants as cell
 use Rattle.c_kinds.specs.Conversions.{holds_all}
 use Rattle.typed_prog.specs.declared.operators.Variable.TheVariants as variables
-use Rattle.acsl_encode.specs.Readings.{Named, one, two, Global, integer_global, pointer_global, Called, Slot, Pointer, Terms, integer, nothing, Seen, Reading, seen_at, seen_in, moved_to}
+use Rattle.acsl_encode.specs.Readings.{Named, one, two, Global, integer_global, pointer_global, Called, Slot, Pointer, Terms, integer, nothing, Seen, Reading}
+use Rattle.acsl_encode.specs.Readings.{seen_at, seen_in, moved_to}
 use Rattle.acsl_encode.specs.Encode as encode
-use Rattle.acsl_encode.specs.Encode.{put, all_put, comparison, pointer_comparison, iff_of, op_one, op_two, as_integer, as_pointer, as_formula, terms_at, unbounded, with_one, with_two, all_of, linked, all_linked, in_chain, Ends, ends_of, low_end, high_end, kind_of, over, quantified, Names, with_name, encoded, all_encoded, binders, no_names, terms_of, body_of}
+use Rattle.acsl_encode.specs.Encode.{put, all_put, comparison, pointer_comparison, iff_of, op_one, op_two, as_integer, as_pointer, as_formula, terms_at}
+use Rattle.acsl_encode.specs.Encode.{unbounded, with_one, with_two, all_of, linked, all_linked, in_chain, Ends, ends_of, low_end, high_end, kind_of, over}
+use Rattle.acsl_encode.specs.Encode.{quantified, Names, with_name, encoded, all_encoded, binders, no_names, terms_of, body_of}
 use Rattle.acsl_encode.specs.WellFormed.{IsInt, IsMemory, IsTable, IsFormula, TermsFit, SlotFits, SeenFits, ReadingFits, FormulasFit}
 use Rattle.acsl_encode.specs.Meaning.{Holds}
-use Rattle.acsl_encode.proofs.Fitting.{only, all_three, number_fits, two_fit, not_fits, comparison_fits, arithmetic_fits, pointers_fit, further_fits, moved_fits, difference_fits, AllFormulas, all_of_fits, PointerFits, integer_fits, formula_fits, pointer_fits, on_one, on_two, variable_fits, read_fits, converted_fits, either_fits, times_fit}
+use Rattle.acsl_encode.proofs.Fitting.{only, all_three, number_fits, two_fit, not_fits, comparison_fits, arithmetic_fits, pointers_fit, further_fits}
+use Rattle.acsl_encode.proofs.Fitting.{moved_fits, difference_fits, AllFormulas, all_of_fits, PointerFits, integer_fits, formula_fits, pointer_fits, on_one}
+use Rattle.acsl_encode.proofs.Fitting.{on_two, variable_fits, read_fits, converted_fits, either_fits, times_fit}
 
 -- ---- kids
 
@@ -81,7 +86,8 @@ module _ (r : Reading) (good : ReadingFits r) (xs : List Terms) (h : AllFit xs) 
       on_two IsFormula IsFormula (λ a b. reading.truth (f a b)) (as_formula (terms_at xs 0)) (as_formula (terms_at xs 1)) (formula_at 0) (formula_at 1) made
 
   moved_at : (minus : Bool) (n : ℕ) → TermsFit (with_two (encode.moved minus n) (as_pointer (terms_at xs 0)) (as_integer (terms_at xs 1)))
-  moved_at minus n = on_two PointerFits IsInt (encode.moved minus n) (as_pointer (terms_at xs 0)) (as_integer (terms_at xs 1)) (pointer_at 0) (integer_at 1) (moved_fits minus n)
+  moved_at minus n = on_two PointerFits IsInt (encode.moved minus n) (as_pointer (terms_at xs 0)) (as_integer (terms_at xs 1)) (pointer_at 0) (integer_at 1)
+      (moved_fits minus n)
 
   reached_fits : (n : ℕ) (o : Option Pointer) (i j : Option Term) → Holds PointerFits o → Holds IsInt i → Holds IsInt j → TermsFit (encode.reached n o i j)
   reached_fits n (Some p) (Some t) (Some u) a b c = (a.0, a.1, b, c)
@@ -90,7 +96,8 @@ module _ (r : Reading) (good : ReadingFits r) (xs : List Terms) (h : AllFit xs) 
   reached_fits n None i j a b c = tt
 
   reached_at : (n : ℕ) → TermsFit (encode.reached n (as_pointer (terms_at xs 0)) (as_integer (terms_at xs 1)) (as_integer (terms_at xs 2)))
-  reached_at n = reached_fits n (as_pointer (terms_at xs 0)) (as_integer (terms_at xs 1)) (as_integer (terms_at xs 2)) (pointer_at 0) (integer_at 1) (integer_at 2)
+  reached_at n = reached_fits n (as_pointer (terms_at xs 0)) (as_integer (terms_at xs 1)) (as_integer (terms_at xs 2)) (pointer_at 0) (integer_at 1)
+      (integer_at 2)
 
   read_at : (c : _) (l : Option Label) → TermsFit (encode.read c (seen_in l r) (terms_at xs 0))
   read_at c None = read_fits c r.here (terms_at xs 0) good.here (kid_fits xs 0 h)
@@ -106,7 +113,8 @@ module _ (r : Reading) (good : ReadingFits r) (xs : List Terms) (h : AllFit xs) 
   applied_fits (hd.Variable x) = variable_fits x (r.here.variable x) (good.here.variables x)
   applied_fits hd.Pointed = kid_fits xs 0 h
   applied_fits (hd.Field k n) =
-      on_one PointerFits (λ p. reading.address p.block (encode.further n p.offset)) (as_pointer (terms_at xs 0)) (pointer_at 0) (λ p f. (f.0, further_fits n p.offset f.1))
+      on_one PointerFits (λ p. reading.address p.block (encode.further n p.offset)) (as_pointer (terms_at xs 0)) (pointer_at 0)
+      (λ p f. (f.0, further_fits n p.offset f.1))
   applied_fits (hd.Element n count) = moved_at false n
   applied_fits (hd.Elements n count) = reached_at n
   applied_fits (hd.Behind n) = reached_at n
@@ -114,17 +122,21 @@ module _ (r : Reading) (good : ReadingFits r) (xs : List Terms) (h : AllFit xs) 
   applied_fits hd.Address = kid_fits xs 0 h
   applied_fits (hd.Moved minus n) = moved_at minus n
   applied_fits (hd.Difference n) =
-      on_two PointerFits PointerFits (λ p p'. unbounded (encode.difference n p p')) (as_pointer (terms_at xs 0)) (as_pointer (terms_at xs 1)) (pointer_at 0) (pointer_at 1)
+      on_two PointerFits PointerFits (λ p p'. unbounded (encode.difference n p p')) (as_pointer (terms_at xs 0)) (as_pointer (terms_at xs 1)) (pointer_at 0)
+      (pointer_at 1)
       (difference_fits n)
   applied_fits hd.Negate = on_integer (op_one op.Neg) (λ t k. let e = only (fits int t) k.int in record { int = e; argument = e })
   applied_fits hd.Complement = on_integer (op_one op.BitNot) (λ t k. let e = only (fits int t) k.int in record { int = e; argument = e })
   applied_fits (hd.Arithmetic o) =
-      on_two IsInt IsInt (λ t u. unbounded (op_two (encode.op_of o) t u)) (as_integer (terms_at xs 0)) (as_integer (terms_at xs 1)) (integer_at 0) (integer_at 1) (arithmetic_fits o)
+      on_two IsInt IsInt (λ t u. unbounded (op_two (encode.op_of o) t u)) (as_integer (terms_at xs 0)) (as_integer (terms_at xs 1)) (integer_at 0)
+      (integer_at 1) (arithmetic_fits o)
   applied_fits (hd.Convert k) = converted_fits r.common.model k (terms_at xs 0) (kid_fits xs 0 h)
   applied_fits (hd.Compare c) =
-      on_two IsInt IsInt (λ t u. reading.truth (comparison c t u)) (as_integer (terms_at xs 0)) (as_integer (terms_at xs 1)) (integer_at 0) (integer_at 1) (comparison_fits c)
+      on_two IsInt IsInt (λ t u. reading.truth (comparison c t u)) (as_integer (terms_at xs 0)) (as_integer (terms_at xs 1)) (integer_at 0) (integer_at 1)
+      (comparison_fits c)
   applied_fits (hd.ComparePointers c) =
-      on_two PointerFits PointerFits (λ p p'. reading.truth (pointer_comparison c p p')) (as_pointer (terms_at xs 0)) (as_pointer (terms_at xs 1)) (pointer_at 0) (pointer_at 1)
+      on_two PointerFits PointerFits (λ p p'. reading.truth (pointer_comparison c p p')) (as_pointer (terms_at xs 0)) (as_pointer (terms_at xs 1))
+      (pointer_at 0) (pointer_at 1)
       (pointers_fit c)
   applied_fits hd.Not = on_one IsFormula (λ f. reading.truth (not_of f)) (as_formula (terms_at xs 0)) (formula_at 0) not_fits
   applied_fits hd.And = on_formulas (λ f g. and_of (f ∷ g ∷ [])) two_fit
@@ -183,7 +195,8 @@ arguments_given (p ∷ ps) (x ∷ xs) h = put_given (encode.argument p x) (encod
 
 memory_given : (s : Seen) → SeenFits s → (k : CellKind) → Holds AllGiven (encode.memory_of s k)
 memory_given s h (cell.Of k) = one_given IsMemory (λ m. m ∷ []) (s.numbers k) (h.numbers k) (λ m f. (f.argument, tt))
-memory_given s h cell.Ptr = one_given (λ p. IsMemory p.block × IsMemory p.offset) encode.two_parts s.pointers h.pointers (λ p f. (f.0.argument, (f.1.argument, tt)))
+memory_given s h cell.Ptr = one_given (λ p. IsMemory p.block × IsMemory p.offset) encode.two_parts s.pointers h.pointers
+    (λ p f. (f.0.argument, (f.1.argument, tt)))
 
 integer_given : (m : Machdep) (k : Kind) (s : Slot) → SlotFits s → Holds AllGiven (encode.integer_of m k s)
 integer_given m k (reading.whole l t) h = by (holds_all m k l)
@@ -212,7 +225,8 @@ all_given_fit (t ∷ ts) h = let rest = all_given_fit ts h.1 in λ i. h.0 i && r
 app_fits : (x : List ℕ) (ts : List Term) → is_name x ≡ true → AllGiven ts → IsInt (encode.app x ts)
 app_fits x ts n h = let a = all_given_fit ts h in record { int = λ i. (n i && true) && a i; argument = λ i. (n i && true) && a i }
 
-called_fits : (r : Reading) (f : Option Called) (xs : List Terms) → ReadingFits r → AllFit xs → Holds (λ c. is_name c.name ≡ true) f → TermsFit (encode.called r f xs)
+called_fits : (r : Reading) (f : Option Called) (xs : List Terms) → ReadingFits r → AllFit xs → Holds (λ c. is_name c.name ≡ true) f → TermsFit
+    (encode.called r f xs)
 called_fits r None xs good h n = tt
 called_fits r (Some c) xs good h n =
     on_one AllGiven (λ ts. unbounded (encode.app c.name ts)) (encode.all_given r c xs)
@@ -241,7 +255,8 @@ compared p f None o' h k made = tt
 
 link_fits : (l : Head) (x y : Terms) → TermsFit x → TermsFit y → Holds IsFormula (linked l x y)
 link_fits (hd.Link c) x y h k = compared IsInt (comparison c) (as_integer x) (as_integer y) (integer_fits x h) (integer_fits y k) (comparison_fits c)
-link_fits (hd.LinkPointers c) x y h k = compared PointerFits (pointer_comparison c) (as_pointer x) (as_pointer y) (pointer_fits x h) (pointer_fits y k) (pointers_fit c)
+link_fits (hd.LinkPointers c) x y h k = compared PointerFits (pointer_comparison c) (as_pointer x) (as_pointer y) (pointer_fits x h) (pointer_fits y k)
+    (pointers_fit c)
 link_fits _ x y h k = tt
 
 links_fit : (ls : List Head) (x : Terms) (ys : List Terms) → TermsFit x → AllFit ys → Holds AllFormulas (all_linked x ls ys)
@@ -268,7 +283,8 @@ high_fits true t h = h
 high_fits false t h = arithmetic_fits ar.Add t (num (pos 1)) h (number_fits (pos 1))
 
 ends_fit : (m : Machdep) (g : Range) (xs : List Terms) → AllFit xs → Holds EndsFit (ends_of m g xs)
-ends_fit m (range.Between p p') xs h = by (as_integer (terms_at xs 0)) (as_integer (terms_at xs 1)) (integer_fits (terms_at xs 0) (kid_fits xs 0 h)) (integer_fits (terms_at xs 1) (kid_fits xs 1 h))
+ends_fit m (range.Between p p') xs h = by (as_integer (terms_at xs 0)) (as_integer (terms_at xs 1)) (integer_fits (terms_at xs 0) (kid_fits xs 0 h))
+    (integer_fits (terms_at xs 1) (kid_fits xs 1 h))
   where
     by : (o o' : Option Term) → Holds IsInt o → Holds IsInt o' → Holds EndsFit (encode.on_two (λ t u. record { low = low_end p t; high = high_end p' u }) o o')
     by (Some t) (Some u) h k = (low_fits p t h, high_fits p' u k)
@@ -303,7 +319,8 @@ cells_fit : (writable : Bool) (t b o : Term) (ks : List CellKind) (n : ℕ) → 
 cells_fit writable t b o [] n h a e = tt
 cells_fit writable t b o (k ∷ ks) n h a e = (cell_fits writable k t b (encode.further n o) h a (further_fits n o e), cells_fit writable t b o ks (suc n) h a e)
 
-valid_fits : (x : List ℕ) (writable : Bool) (ks : List CellKind) (o : Option Term) (y : Terms) → IsInt (var x) → Holds IsTable o → TermsFit y → TermsFit (encode.valid x writable ks o y)
+valid_fits : (x : List ℕ) (writable : Bool) (ks : List CellKind) (o : Option Term) (y : Terms) → IsInt (var x) → Holds IsTable o → TermsFit y → TermsFit
+    (encode.valid x writable ks o y)
 valid_fits x writable ks o (reading.address b e) n h k =
     on_one IsTable (λ t. reading.truth (all_of (encode.good_cells writable t b e ks 0))) o h
     (λ t f. all_of_fits (encode.good_cells writable t b e ks 0) (cells_fit writable t b e ks 0 f k.0 k.1))
@@ -349,7 +366,8 @@ body_fits : (g : Range) (ks : Trees) → KidsFit ks → (r : Reading) (ns : Name
 body_fits g ks h r ns i d good k =
     let inside = with_name d (integer (kind_of g) (var (r.common.binder i))) ns in
     let xs = all_encoded r inside (suc i) (suc d) ks in
-    formula_fits (encode.last_of xs) (kid_fits xs (length xs - 1) (h r inside (suc i) (suc d) good (named_fits d (integer (kind_of g) (var (r.common.binder i))) ns (good.binders i) k)))
+    formula_fits (encode.last_of xs) (kid_fits xs (length xs - 1) (h r inside (suc i) (suc d) good
+    (named_fits d (integer (kind_of g) (var (r.common.binder i))) ns (good.binders i) k)))
 
 mutual
   pub tree_fits : (t : Tree) (r : Reading) (ns : Names) (i d : ℕ) → ReadingFits r → NamesFit ns → TermsFit (encoded r ns i d t)
@@ -361,17 +379,20 @@ mutual
       kid_fits (all_encoded (moved_to l r) ns i d ks) 0 (trees_fit ks (moved_to l r) ns i d (moved_reading l r good) k)
   tree_fits (node hd.Let ks) r ns i d good k = let_fits ks (trees_fit ks) r ns i d good k
   tree_fits (node (hd.Every g) ks) r ns i d good k =
-      quantified_fits (th.Forall (r.common.binder i)) (ends_of r.common.model g (all_encoded r ns (suc i) d ks)) _ (forall_fits (r.common.binder i) (good.binders i))
+      quantified_fits (th.Forall (r.common.binder i)) (ends_of r.common.model g (all_encoded r ns (suc i) d ks)) _
+      (forall_fits (r.common.binder i) (good.binders i))
       (ends_fit r.common.model g (all_encoded r ns (suc i) d ks) (trees_fit ks r ns (suc i) d good k)) (body_fits g ks (trees_fit ks) r ns i d good k)
   tree_fits (node (hd.Some g) ks) r ns i d good k =
-      quantified_fits (th.Exists (r.common.binder i)) (ends_of r.common.model g (all_encoded r ns (suc i) d ks)) _ (exists_fits (r.common.binder i) (good.binders i))
+      quantified_fits (th.Exists (r.common.binder i)) (ends_of r.common.model g (all_encoded r ns (suc i) d ks)) _
+      (exists_fits (r.common.binder i) (good.binders i))
       (ends_fit r.common.model g (all_encoded r ns (suc i) d ks) (trees_fit ks r ns (suc i) d good k)) (body_fits g ks (trees_fit ks) r ns i d good k)
   tree_fits (node hd.Chain ks) r ns i d good k =
       on_one AllFormulas (λ fs. reading.truth (all_of fs)) (in_chain (heads_of ks) (all_encoded r ns i d ks))
       (chain_fits (heads_of ks) (all_encoded r ns i d ks) (trees_fit ks r ns i d good k)) all_of_fits
   tree_fits (node (hd.Valid c writable) ks) r ns i d good k =
       let at = i + encode.own_binders (hd.Valid c writable) (heads_of ks) in
-      valid_fits (r.common.binder i) writable (encode.content_cells r.common c) r.here.table (terms_at (all_encoded r ns at d ks) 0) (good.binders i) good.here.table
+      valid_fits (r.common.binder i) writable (encode.content_cells r.common c) r.here.table (terms_at (all_encoded r ns at d ks) 0)
+      (good.binders i) good.here.table
       (kid_fits (all_encoded r ns at d ks) 0 (trees_fit ks r ns at d good k))
   tree_fits (node head ks) r ns i d good k = applied_fits r good (all_encoded r ns i d ks) (trees_fit ks r ns i d good k) head
 

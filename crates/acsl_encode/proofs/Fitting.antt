@@ -16,9 +16,11 @@ use Rattle.qed_terms.specs.declared.head.TermOp.TheVariants as op
 use Rattle.qed_terms.specs.Tree.{Tree as Term, trees_of, num, ite, not_of, imp_of}
 use Rattle.qed_terms.specs.WellFormed.{fits, all_fit, each, kid_count, int, mem, formula}
 use Rattle.acsl_encode.specs.Readings as reading
-use Rattle.acsl_encode.specs.Readings.{Pointer, at, Terms, integer, address, variable, elements, nothing, Slot, whole, pointer, home, absent, Seen, Reading, seen_at, seen_in}
+use Rattle.acsl_encode.specs.Readings.{Pointer, at, Terms, integer, address, variable, elements, nothing, Slot, whole, pointer, home, absent, Seen, Reading}
+use Rattle.acsl_encode.specs.Readings.{seen_at, seen_in}
 use Rattle.acsl_encode.specs.Encode as encode
-use Rattle.acsl_encode.specs.Encode.{comparison, pointer_comparison, times, further, difference, wrapped, truth_term, op_of, op_one, op_two, load, iff_of, as_integer, as_pointer, as_formula, with_one, with_two, terms_at, all_of, linked, all_linked, in_chain}
+use Rattle.acsl_encode.specs.Encode.{comparison, pointer_comparison, times, further, difference, wrapped, truth_term, op_of, op_one, op_two, load, iff_of}
+use Rattle.acsl_encode.specs.Encode.{as_integer, as_pointer, as_formula, with_one, with_two, terms_at, all_of, linked, all_linked, in_chain}
 use Rattle.acsl_encode.specs.WellFormed.{IsInt, IsMemory, IsFormula, TermsFit, SlotFits, SeenFits}
 use Rattle.acsl_encode.specs.Meaning.{Holds}
 
@@ -80,7 +82,8 @@ truth_fits f h = ite_fits f (num (pos 1)) (num (pos 0)) h (number_fits (pos 1)) 
 
 wrapped_fits : (k : Kind) (t : Term) → IsInt t → IsInt (wrapped k t)
 wrapped_fits kind.Bool t h =
-    ite_fits (encode.comparison cmp.Equal t (num (pos 0))) (num (pos 0)) (num (pos 1)) (equal_fits t (num (pos 0)) h (number_fits (pos 0))) (number_fits (pos 0)) (number_fits (pos 1))
+    ite_fits (encode.comparison cmp.Equal t (num (pos 0))) (num (pos 0)) (num (pos 1)) (equal_fits t (num (pos 0)) h (number_fits (pos 0)))
+    (number_fits (pos 0)) (number_fits (pos 1))
 wrapped_fits kind.Char t h = let e = only (fits int t) h.int in record { int = e; argument = e }
 wrapped_fits kind.SChar t h = let e = only (fits int t) h.int in record { int = e; argument = e }
 wrapped_fits kind.UChar t h = let e = only (fits int t) h.int in record { int = e; argument = e }
@@ -123,7 +126,8 @@ abbrev pub PointerFits : Pointer → Type 0
 PointerFits p = IsInt p.block × IsInt p.offset
 
 pub pointers_fit : (c : Comparison) (p p' : Pointer) → PointerFits p → PointerFits p' → IsFormula (pointer_comparison c p p')
-pointers_fit c p p' h k = by c (two_fit (comparison cmp.Equal p.block p'.block) (comparison cmp.Equal p.offset p'.offset) (equal_fits p.block p'.block h.0 k.0) (equal_fits p.offset p'.offset h.1 k.1))
+pointers_fit c p p' h k = by c (two_fit (comparison cmp.Equal p.block p'.block) (comparison cmp.Equal p.offset p'.offset)
+    (equal_fits p.block p'.block h.0 k.0) (equal_fits p.offset p'.offset h.1 k.1))
   where
     by : (c : Comparison) → IsFormula (encode.same_pointer p p') → IsFormula (pointer_comparison c p p')
     by cmp.Equal e = e

@@ -18,9 +18,11 @@ use Rattle.acsl_truth.specs.States.{Value, State, World, number_of, block_of, of
 use Rattle.qed_terms.specs.Tree.{Tree as Term, ite}
 use Rattle.qed_terms.specs.Meaning.{Values, World as Logic}
 use Rattle.acsl_encode.specs.Readings as reading
-use Rattle.acsl_encode.specs.Readings.{Pointer, at, Terms, integer, address, variable, elements, nothing, Slot, whole, pointer, home, absent, Seen, Reading, seen_at, seen_in}
+use Rattle.acsl_encode.specs.Readings.{Pointer, at, Terms, integer, address, variable, elements, nothing, Slot, whole, pointer, home, absent, Seen, Reading}
+use Rattle.acsl_encode.specs.Readings.{seen_at, seen_in}
 use Rattle.acsl_encode.specs.Encode as encode
-use Rattle.acsl_encode.specs.Encode.{comparison, pointer_comparison, wrapped, truth_term, op_of, op_two, load, as_integer, as_pointer, as_formula, unbounded, terms_at, iff_of}
+use Rattle.acsl_encode.specs.Encode.{comparison, pointer_comparison, wrapped, truth_term, op_of, op_two, load, as_integer, as_pointer, as_formula, unbounded}
+use Rattle.acsl_encode.specs.Encode.{terms_at, iff_of}
 use Rattle.acsl_encode.specs.Meaning.{number_in, is_so_in, Means, SlotStands, SeenStands, Stands, NumbersHeld, PointersHeld, memory_in}
 use Rattle.acsl_encode.proofs.Numbers.{minus_zero, truth_is}
 use Rattle.acsl_encode.proofs.Operands.{IsNumber, IsTruth, on_one}
@@ -38,7 +40,8 @@ module _ (q : Logic) (r : Reading) (env : Values) where
 
   -- ---- variables and cells
 
-  pub variable_means : (x : Variable) (s : Slot) (st : State) → SlotStands q r.common env x s st → M (encode.of_variable x s) (state.pointer (st.home x) (pos 0))
+  pub variable_means : (x : Variable) (s : Slot) (st : State) → SlotStands q r.common env x s st → M (encode.of_variable x s)
+      (state.pointer (st.home x) (pos 0))
   variable_means x (whole k t) st h = ap (λ b. state.pointer b (pos 0)) h.0
   variable_means x (pointer b o) st h = ap (λ b. state.pointer b (pos 0)) h.0
   variable_means x (home b) st h = (ap (λ b. state.pointer b (pos 0)) h.0, h.1)
@@ -59,10 +62,12 @@ module _ (q : Logic) (r : Reading) (env : Values) where
   held_means (content.Struct n) x (home b) st e h = tt
   held_means (content.Struct n) x absent st e h = tt
 
-  pub read_means : (c : Content) (s : Seen) (st : State) (x : Terms) (v : Value) → ((x : Variable) → is_negative (r.common.hidden x) ≡ true) → SeenStands q r.common env s st
+  pub read_means : (c : Content) (s : Seen) (st : State) (x : Terms) (v : Value) → ((x : Variable) → is_negative (r.common.hidden x) ≡ true)
+      → SeenStands q r.common env s st
       → M x v → M (encode.read c s x) (state.read c st v)
   read_means (content.Integer k) s st (address b o) v e stands h =
-      on_one q r.common env (λ t. NumbersHeld r.common.model k (memory_in q env t) st) (λ t. integer (Some k) (load t b o)) (state.read (content.Integer k) st v) (s.numbers k)
+      on_one q r.common env (λ t. NumbersHeld r.common.model k (memory_in q env t) st) (λ t. integer (Some k) (load t b o))
+      (state.read (content.Integer k) st v) (s.numbers k)
       (stands.numbers k)
       (λ t held. let n = held (N b) (N o) h.1 in (ap (λ v. state.held (cell.Of k) st (block_of v) (offset_of v)) h.0 ∙ n.number, n.kind))
   read_means content.Pointer s st (address b o) v e stands h =
@@ -126,11 +131,14 @@ module _ (q : Logic) (r : Reading) (env : Values) where
         by true e = let held = held_by_wider r.common.model k l (N t) e h in (ap state.number ((conversions_keep r.common.model k (N t)).kept held), held)
         by false e = wrapped_means k t
 
-    pub converted_means : (k : Kind) (x : Terms) (v : Value) → M x v → M (encode.converted r.common.model k x) (state.number (convert r.common.model k (number_of v)))
+    pub converted_means : (k : Kind) (x : Terms) (v : Value) → M x v → M (encode.converted r.common.model k x)
+        (state.number (convert r.common.model k (number_of v)))
     converted_means k (integer (Some l) t) v h =
-        subst (λ v. M (encode.converted r.common.model k (integer (Some l) t)) (state.number (convert r.common.model k (number_of v)))) (sym h.0) (kept_means k l t h.1)
+        subst (λ v. M (encode.converted r.common.model k (integer (Some l) t)) (state.number (convert r.common.model k (number_of v)))) (sym h.0)
+        (kept_means k l t h.1)
     converted_means k (integer None t) v h =
-        subst (λ v. M (encode.converted r.common.model k (integer None t)) (state.number (convert r.common.model k (number_of v)))) (sym h.0) (wrapped_means k t)
+        subst (λ v. M (encode.converted r.common.model k (integer None t)) (state.number (convert r.common.model k (number_of v)))) (sym h.0)
+        (wrapped_means k t)
     converted_means k (reading.truth f) v h =
         subst (λ v. M (encode.converted r.common.model k (reading.truth f)) (state.number (convert r.common.model k (number_of v)))) (sym (h ∙ truth_is (F f)))
         (wrapped_means k (truth_term f))

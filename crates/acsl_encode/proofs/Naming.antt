@@ -1,5 +1,6 @@
 -- Names of binders differ, and are no names without a `!`.
-use Rattle.std.proofs.Common.{◌≡◌, ◌⊎◌, ℕ, zero, suc, ◌+◌, ◌<◌, ◌≤◌, Bool, true, false, cond, List, [], ◌∷◌, ◌++◌, drop, map, refl, sym, ap, inl, inr, ⊎_elim, arith}
+use Rattle.std.proofs.Common.{◌≡◌, ◌⊎◌, ℕ, zero, suc, ◌+◌, ◌<◌, ◌≤◌, Bool, true, false, cond, List, [], ◌∷◌, ◌++◌, drop, map, refl, sym, ap, inl, inr, ⊎_elim}
+use Rattle.std.proofs.Common.{arith}
 use Rattle.std.specs.Prelude.{get_or, if◌then◌else◌, nat_lt, ◌-◌}
 use Rattle.std.specs.Str.{bytes_eq}
 use Rattle.std.proofs.lemmas.Bool.{cases_Bool}
@@ -45,7 +46,8 @@ has_the_byte c (x ∷ xs) ys h = has_the_byte c xs ys h.1
 
 counted : (names : Spelled) (n : ℕ) → bound_before names (spelled_at names n) (suc n) ≡ suc (bound_before names (spelled_at names n) n)
 counted names n =
-    ap (λ b. cond b (suc (bound_before names (spelled_at names n) n)) (bound_before names (spelled_at names n) n)) ((bytes_eq-Decides (spelled_at names n) (spelled_at names n)).1 refl)
+    ap (λ b. cond b (suc (bound_before names (spelled_at names n) n)) (bound_before names (spelled_at names n) n))
+    ((bytes_eq-Decides (spelled_at names n) (spelled_at names n)).1 refl)
 
 one_grows : (names : Spelled) (x : List ℕ) (n : ℕ) → bound_before names x n ≤ bound_before names x (suc n)
 one_grows names x n = by (bytes_eq (spelled_at names n) x)
@@ -56,7 +58,8 @@ one_grows names x n = by (bytes_eq (spelled_at names n) x)
 
 count_grows : (names : Spelled) (x : List ℕ) (i n : ℕ) → bound_before names x i ≤ bound_before names x (n + i)
 count_grows names x i zero = let e : 0 + i ≡ i = omega arith in let same = ap (bound_before names x) e in omega (arith, same)
-count_grows names x i (suc n) = let a = count_grows names x i n in let b = one_grows names x (n + i) in let e : suc n + i ≡ suc (n + i) = omega arith in let same = ap (bound_before names x) e in omega (arith, a, b, same)
+count_grows names x i (suc n) = let a = count_grows names x i n in let b = one_grows names x (n + i) in let e : suc n + i ≡ suc
+    (n + i) = omega arith in let same = ap (bound_before names x) e in omega (arith, a, b, same)
 
 -- a binder that stands before another one of its name has a smaller number
 comes_before : (names : Spelled) (i j : ℕ) → spelled_at names i ≡ spelled_at names j → i < j
@@ -64,7 +67,8 @@ comes_before : (names : Spelled) (i j : ℕ) → spelled_at names i ≡ spelled_
 comes_before names i j same less =
     let far : (n : ℕ) × (j ≡ n + suc i) = (j - suc i, omega (arith, less)) in
     let more = count_grows names (spelled_at names i) (suc i) far.0 in
-    let at_j : bound_before names (spelled_at names i) (far.0 + suc i) ≡ bound_before names (spelled_at names j) j = (λ k. bound_before names (same k) (sym far.1 k)) in
+    let at_j : bound_before names (spelled_at names i) (far.0 + suc i) ≡ bound_before names (spelled_at names j) j =
+    (λ k. bound_before names (same k) (sym far.1 k)) in
     let here = counted names i in omega (arith, more, at_j, here)
 
 spelled_lacks : (names : Spelled) (n : ℕ) → AllLack names → Lacks mark (spelled_at names n)

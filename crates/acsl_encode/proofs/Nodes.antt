@@ -16,7 +16,8 @@ use Rattle.wp_base.specs.Blocks.{same_truth}
 use Rattle.acsl_encode.specs.Readings as reading
 use Rattle.acsl_encode.specs.Readings.{Pointer, Terms, Reading, seen_in}
 use Rattle.acsl_encode.specs.Encode as encode
-use Rattle.acsl_encode.specs.Encode.{comparison, pointer_comparison, as_integer, as_pointer, as_formula, unbounded, terms_at, iff_of, linked, all_linked, in_chain, all_of}
+use Rattle.acsl_encode.specs.Encode.{comparison, pointer_comparison, as_integer, as_pointer, as_formula, unbounded, terms_at, iff_of, linked, all_linked}
+use Rattle.acsl_encode.specs.Encode.{in_chain, all_of}
 use Rattle.acsl_encode.specs.Meaning.{Holds, number_in, is_so_in, Means, Stands}
 use Rattle.acsl_encode.proofs.Numbers.{neg_is}
 use Rattle.acsl_encode.proofs.Operands.{IsNumber, IsTruth, IsPointer, as_number, as_truth, as_address, on_one, on_two, AllMean, kid_means}
@@ -48,30 +49,36 @@ module _ (q : Logic) (r : Reading) (env : Values) where
     pointer_at : (i : ℕ) → Holds (IsPointer q r.common env (value_at vs i)) (as_pointer (terms_at xs i))
     pointer_at i = as_address q r.common env (terms_at xs i) (value_at vs i) (kid_means q r.common env xs vs i h)
 
-    on_integer : (f : Term → Terms) (v : Value) → ((t : Term) → IsNumber q r.common env (value_at vs 0) t → M (f t) v) → M (encode.with_one f (as_integer (terms_at xs 0))) v
+    on_integer : (f : Term → Terms) (v : Value) → ((t : Term) → IsNumber q r.common env (value_at vs 0) t → M (f t) v) → M
+        (encode.with_one f (as_integer (terms_at xs 0))) v
     on_integer f v made = on_one q r.common env (IsNumber q r.common env (value_at vs 0)) f v (as_integer (terms_at xs 0)) (integer_at 0) made
 
     on_integers : (f : Term → Term → Terms) (v : Value)
         → ((t u : Term) → IsNumber q r.common env (value_at vs 0) t → IsNumber q r.common env (value_at vs 1) u → M (f t u) v)
         → M (encode.with_two f (as_integer (terms_at xs 0)) (as_integer (terms_at xs 1))) v
     on_integers f v made =
-        on_two q r.common env (IsNumber q r.common env (value_at vs 0)) (IsNumber q r.common env (value_at vs 1)) f v (as_integer (terms_at xs 0)) (as_integer (terms_at xs 1))
+        on_two q r.common env (IsNumber q r.common env (value_at vs 0)) (IsNumber q r.common env (value_at vs 1)) f v (as_integer (terms_at xs 0))
+        (as_integer (terms_at xs 1))
         (integer_at 0) (integer_at 1) made
 
     on_pointers : (f : Pointer → Pointer → Terms) (v : Value)
         → ((p p' : Pointer) → IsPointer q r.common env (value_at vs 0) p → IsPointer q r.common env (value_at vs 1) p' → M (f p p') v)
         → M (encode.with_two f (as_pointer (terms_at xs 0)) (as_pointer (terms_at xs 1))) v
     on_pointers f v made =
-        on_two q r.common env (IsPointer q r.common env (value_at vs 0)) (IsPointer q r.common env (value_at vs 1)) f v (as_pointer (terms_at xs 0)) (as_pointer (terms_at xs 1))
+        on_two q r.common env (IsPointer q r.common env (value_at vs 0)) (IsPointer q r.common env (value_at vs 1)) f v (as_pointer (terms_at xs 0))
+        (as_pointer (terms_at xs 1))
         (pointer_at 0) (pointer_at 1) made
 
     moved_at : (minus : Bool) (n : ℕ)
-        → M (encode.with_two (encode.moved minus n) (as_pointer (terms_at xs 0)) (as_integer (terms_at xs 1))) (truth.moved_by minus n (value_at vs 0) (value_at vs 1))
+        → M (encode.with_two (encode.moved minus n) (as_pointer (terms_at xs 0)) (as_integer (terms_at xs 1)))
+        (truth.moved_by minus n (value_at vs 0) (value_at vs 1))
     moved_at minus n =
-        on_two q r.common env (IsPointer q r.common env (value_at vs 0)) (IsNumber q r.common env (value_at vs 1)) (encode.moved minus n) _ (as_pointer (terms_at xs 0))
+        on_two q r.common env (IsPointer q r.common env (value_at vs 0)) (IsNumber q r.common env (value_at vs 1)) (encode.moved minus n) _
+        (as_pointer (terms_at xs 0))
         (as_integer (terms_at xs 1)) (pointer_at 0) (integer_at 1) (λ p t. moved_means q r.common env minus n (value_at vs 0) (value_at vs 1) p t)
 
-    reached_means : (n : ℕ) (u v w : Value) (o : Option Pointer) (i j : Option Term) → Holds (IsPointer q r.common env u) o → Holds (IsNumber q r.common env v) i
+    reached_means : (n : ℕ) (u v w : Value) (o : Option Pointer) (i j : Option Term) → Holds (IsPointer q r.common env u) o → Holds
+        (IsNumber q r.common env v) i
         → Holds (IsNumber q r.common env w) j → M (encode.reached n o i j) (truth.reached n u v w)
     reached_means n u v w (Some p) (Some t) (Some t') a b c = λ i. truth.reached n (a.0 i) (b i) (c i)
     reached_means n u v w (Some p) (Some t) None a b c = tt
@@ -81,13 +88,16 @@ module _ (q : Logic) (r : Reading) (env : Values) where
     reached_at : (n : ℕ) → M (encode.reached n (as_pointer (terms_at xs 0)) (as_integer (terms_at xs 1)) (as_integer (terms_at xs 2)))
         (truth.reached n (value_at vs 0) (value_at vs 1) (value_at vs 2))
     reached_at n =
-        reached_means n (value_at vs 0) (value_at vs 1) (value_at vs 2) (as_pointer (terms_at xs 0)) (as_integer (terms_at xs 1)) (as_integer (terms_at xs 2)) (pointer_at 0)
+        reached_means n (value_at vs 0) (value_at vs 1) (value_at vs 2) (as_pointer (terms_at xs 0)) (as_integer (terms_at xs 1)) (as_integer (terms_at xs 2))
+        (pointer_at 0)
         (integer_at 1) (integer_at 2)
 
     on_formulas : (f : Term → Term → Term) (g : Bool → Bool → Bool) → ((a b : Term) → g (F a) (F b) ≡ F (f a b))
-        → Found (encode.with_two (λ a b. reading.truth (f a b)) (as_formula (terms_at xs 0)) (as_formula (terms_at xs 1))) (g (is_true (value_at vs 0)) (is_true (value_at vs 1)))
+        → Found (encode.with_two (λ a b. reading.truth (f a b)) (as_formula (terms_at xs 0)) (as_formula (terms_at xs 1)))
+        (g (is_true (value_at vs 0)) (is_true (value_at vs 1)))
     on_formulas f g is =
-        on_two q r.common env (IsTruth q r.common env (value_at vs 0)) (IsTruth q r.common env (value_at vs 1)) (λ a b. reading.truth (f a b)) _ (as_formula (terms_at xs 0))
+        on_two q r.common env (IsTruth q r.common env (value_at vs 0)) (IsTruth q r.common env (value_at vs 1)) (λ a b. reading.truth (f a b)) _
+        (as_formula (terms_at xs 0))
         (as_formula (terms_at xs 1)) (truth_at 0) (truth_at 1) (λ a b h k. ap state.truth ((λ i. g (h i) (k i)) ∙ is a b))
 
     module _ (w : World) (stands : Stands q r env w) where
@@ -110,7 +120,8 @@ module _ (q : Logic) (r : Reading) (env : Values) where
       applied_means (hd.Variable x) = variable_means q r env x (r.here.variable x) w.here (stands.here.variables x)
       applied_means hd.Pointed = kid_means q r.common env xs vs 0 h
       applied_means (hd.Field k n) =
-          on_one q r.common env (IsPointer q r.common env (value_at vs 0)) _ _ (as_pointer (terms_at xs 0)) (pointer_at 0) (λ p. field_means q r.common env n (value_at vs 0) p)
+          on_one q r.common env (IsPointer q r.common env (value_at vs 0)) _ _ (as_pointer (terms_at xs 0)) (pointer_at 0)
+          (λ p. field_means q r.common env n (value_at vs 0) p)
       applied_means (hd.Element n count) = moved_at false n
       applied_means (hd.Elements n count) = reached_at n
       applied_means (hd.Behind n) = reached_at n
@@ -118,11 +129,19 @@ module _ (q : Logic) (r : Reading) (env : Values) where
       applied_means hd.Address = kid_means q r.common env xs vs 0 h
       applied_means (hd.Moved minus n) = moved_at minus n
       applied_means (hd.Difference n) =
-          on_pointers _ _ (λ p p' h k. ((λ i. state.number (quotient (state.offset_of (h.0 i) -ℤ state.offset_of (k.0 i)) (pos n))) ∙ ap state.number (difference_is q r.common env n p p'), tt))
+          on_pointers _ _ (λ p p' h k. (
+            (λ i. state.number (quotient (state.offset_of (h.0 i) -ℤ state.offset_of (k.0 i)) (pos n))) ∙ ap state.number
+                (difference_is q r.common env n p p'),
+            tt,
+          ))
       applied_means hd.Negate = on_integer _ _ (λ t h. (ap (λ v. state.number (neg_ℤ (number_of v))) h ∙ ap state.number (neg_is (number_in q env t)), tt))
       applied_means hd.Complement = on_integer _ _ (λ t h. (ap (λ v. state.number (turned_bits (number_of v))) h, tt))
       applied_means (hd.Arithmetic o) =
-          on_integers _ _ (λ t u h k. ((λ i. state.number (computed o (number_of (h i)) (number_of (k i)))) ∙ ap state.number (computed_is q r.common env o t u), tt))
+          on_integers _ _ (λ t u h k. (
+            (λ i. state.number (computed o (number_of (h i)) (number_of (k i)))) ∙ ap state.number
+                (computed_is q r.common env o t u),
+            tt,
+          ))
       applied_means (hd.Convert k) =
           subst (λ m. M (encode.converted r.common.model k (terms_at xs 0)) (state.number (convert m k (number_of (value_at vs 0))))) stands.model
           (converted_means q r env stands.long_bits k (terms_at xs 0) (value_at vs 0) (kid_means q r.common env xs vs 0 h))
@@ -138,8 +157,10 @@ module _ (q : Logic) (r : Reading) (env : Values) where
       applied_means hd.Implies = on_formulas imp_of implied (λ f g. refl)
       applied_means hd.Iff = on_formulas iff_of same (λ f g. same_truths (F f) (F g))
       applied_means hd.Choose =
-          on_one q r.common env (IsTruth q r.common env (value_at vs 0)) (encode.either (terms_at xs 1) (terms_at xs 2)) (truth.chosen vs) (as_formula (terms_at xs 0)) (truth_at 0)
-          (λ c e. either_means q r env (terms_at xs 1) (terms_at xs 2) c (value_at vs 0) (value_at vs 1) (value_at vs 2) e (kid_means q r.common env xs vs 1 h) (kid_means q r.common env xs vs 2 h))
+          on_one q r.common env (IsTruth q r.common env (value_at vs 0)) (encode.either (terms_at xs 1) (terms_at xs 2)) (truth.chosen vs)
+          (as_formula (terms_at xs 0)) (truth_at 0)
+          (λ c e. either_means q r env (terms_at xs 1) (terms_at xs 2) c (value_at vs 0) (value_at vs 1) (value_at vs 2) e
+          (kid_means q r.common env xs vs 1 h) (kid_means q r.common env xs vs 2 h))
       applied_means hd.Chain = tt
       applied_means (hd.Link c) = kid_means q r.common env xs vs 0 h
       applied_means (hd.LinkPointers c) = kid_means q r.common env xs vs 0 h
@@ -165,7 +186,8 @@ module _ (q : Logic) (r : Reading) (env : Values) where
   abbrev pub AllAre : Bool → List Term → Type 0
   AllAre b fs = b ≡ each_true (map F fs)
 
-  both_hold : (b c : Bool) (o : Option Term) (os : Option (List Term)) → Holds (λ f. b ≡ F f) o → Holds (AllAre c) os → Holds (AllAre (b && c)) (encode.both o os)
+  both_hold : (b c : Bool) (o : Option Term) (os : Option (List Term)) → Holds (λ f. b ≡ F f) o → Holds (AllAre c) os → Holds (AllAre (b && c))
+      (encode.both o os)
   both_hold b c (Some f) (Some fs) h k = λ i. h i && k i
   both_hold b c (Some f) None h k = tt
   both_hold b c None os h k = tt
@@ -178,10 +200,12 @@ module _ (q : Logic) (r : Reading) (env : Values) where
 
   link_means : (l : Head) (x y : Terms) (v w : Value) → M x v → M y w → Holds (λ f. truth.linked l v w ≡ F f) (linked l x y)
   link_means (hd.Link c) x y v w h k =
-      compared (IsNumber q r.common env v) (IsNumber q r.common env w) (comparison c) _ (as_integer x) (as_integer y) (as_number q r.common env x v h) (as_number q r.common env y w k)
+      compared (IsNumber q r.common env v) (IsNumber q r.common env w) (comparison c) _ (as_integer x) (as_integer y) (as_number q r.common env x v h)
+      (as_number q r.common env y w k)
       (λ t u h k. (λ i. compare c (number_of (h i)) (number_of (k i))) ∙ comparison_is q r.common env c t u)
   link_means (hd.LinkPointers c) x y v w h k =
-      compared (IsPointer q r.common env v) (IsPointer q r.common env w) (pointer_comparison c) _ (as_pointer x) (as_pointer y) (as_address q r.common env x v h) (as_address q r.common env y w k)
+      compared (IsPointer q r.common env v) (IsPointer q r.common env w) (pointer_comparison c) _ (as_pointer x) (as_pointer y)
+      (as_address q r.common env x v h) (as_address q r.common env y w k)
       (λ p p' h k. (λ i. compare_pointers c (h.0 i) (k.0 i)) ∙ pointers_is q r.common env c p p')
   link_means _ x y v w h k = tt
 
@@ -205,5 +229,6 @@ module _ (q : Logic) (r : Reading) (env : Values) where
   pub chain_means : (ls : List Head) (xs : List Terms) (vs : List Value) → AllMean q r.common env xs vs
       → M (encode.with_one (λ fs. reading.truth (all_of fs)) (in_chain ls xs)) (state.truth (truth.in_chain ls vs))
   chain_means ls xs vs h =
-      on_one q r.common env (AllAre (truth.in_chain ls vs)) (λ fs. reading.truth (all_of fs)) (state.truth (truth.in_chain ls vs)) (in_chain ls xs) (chain_holds ls xs vs h)
+      on_one q r.common env (AllAre (truth.in_chain ls vs)) (λ fs. reading.truth (all_of fs)) (state.truth (truth.in_chain ls vs)) (in_chain ls xs)
+      (chain_holds ls xs vs h)
       (λ fs e. ap state.truth (e ∙ sym (all_is fs)))

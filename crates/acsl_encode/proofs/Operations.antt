@@ -25,7 +25,8 @@ use Rattle.qed_terms.specs.Tree.{Tree as Term, num}
 use Rattle.qed_terms.specs.Meaning.{Values, World as Logic}
 use Rattle.acsl_encode.specs.Readings.{Pointer, Terms, address, Common}
 use Rattle.acsl_encode.specs.Encode as encode
-use Rattle.acsl_encode.specs.Encode.{comparison, pointer_comparison, times, further, difference, wrapped, truth_term, op_of, op_one, op_two, as_integer, as_pointer, as_formula}
+use Rattle.acsl_encode.specs.Encode.{comparison, pointer_comparison, times, further, difference, wrapped, truth_term, op_of, op_one, op_two, as_integer}
+use Rattle.acsl_encode.specs.Encode.{as_pointer, as_formula}
 use Rattle.acsl_encode.specs.Meaning.{number_in, is_so_in, HasAddress, Means}
 use Rattle.acsl_encode.proofs.Numbers.{sum_two, product_two, back_is, one_times, none_more, by_one}
 use Rattle.acsl_encode.proofs.Operands.{IsNumber, IsPointer}
@@ -137,7 +138,8 @@ module _ (q : Logic) (r : Common) (env : Values) where
   difference_is n p p' = by (n == 1) refl
     where
       by : (b : Bool) → (n == 1) ≡ b
-          → quotient (N p.offset -ℤ N p'.offset) (pos n) ≡ N (if b then op_two op.Sub p.offset p'.offset else op_two op.Div (op_two op.Sub p.offset p'.offset) (num (pos n)))
+          → quotient (N p.offset -ℤ N p'.offset) (pos n) ≡ N (if b then op_two op.Sub p.offset p'.offset else op_two op.Div (op_two op.Sub p.offset p'.offset)
+          (num (pos n)))
       by true e = ap (λ k. quotient (N p.offset -ℤ N p'.offset) (pos k)) (eqb-true n 1 e) ∙ by_one (N p.offset -ℤ N p'.offset)
       by false e = refl
 
@@ -145,10 +147,16 @@ module _ (q : Logic) (r : Common) (env : Values) where
 
   pub moved_means : (minus : Bool) (n : ℕ) (v w : Value) (p : Pointer) (t : Term) → IsPointer q r env v p → IsNumber q r env w t
       → M (encode.moved minus n p t) (moved_by minus n v w)
-  moved_means true n v w p t h k =
-      ((λ i. moved_by true n (h.0 i) (k i)) ∙ ap (λ o. state.pointer (N p.block) o) (back_is (N p.offset) (pos n *ℤ N t) ∙ ap (λ z. N p.offset -ℤ z) (times_is n t)), h.1)
-  moved_means false n v w p t h k =
-      ((λ i. moved_by false n (h.0 i) (k i)) ∙ ap (λ o. state.pointer (N p.block) o) (ap (λ z. N p.offset +ℤ z) (times_is n t) ∙ sym (sum_two (N p.offset) (N (times n t)))), h.1)
+  moved_means true n v w p t h k = (
+    (λ i. moved_by true n (h.0 i) (k i)) ∙ ap (λ o. state.pointer (N p.block) o)
+        (back_is (N p.offset) (pos n *ℤ N t) ∙ ap (λ z. N p.offset -ℤ z) (times_is n t)),
+    h.1,
+  )
+  moved_means false n v w p t h k = (
+    (λ i. moved_by false n (h.0 i) (k i)) ∙ ap (λ o. state.pointer (N p.block) o)
+        (ap (λ z. N p.offset +ℤ z) (times_is n t) ∙ sym (sum_two (N p.offset) (N (times n t)))),
+    h.1,
+  )
 
   pub field_means : (n : ℕ) (v : Value) (p : Pointer) → IsPointer q r env v p → M (address p.block (further n p.offset)) (truth.moved v (pos n))
   field_means n v p h = (ap (λ v. truth.moved v (pos n)) h.0 ∙ ap (λ o. state.pointer (N p.block) o) (further_is n p.offset), h.1)

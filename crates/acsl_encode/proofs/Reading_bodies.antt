@@ -24,7 +24,8 @@ use Rattle.acsl_encode.specs.Binders.{Spelled, mark, numbered, Later}
 use Rattle.acsl_encode.specs.Calls.{Given, AllAre, IsMemory, IsGlobal, Shares}
 use Rattle.acsl_encode.specs.WellFormed as fit
 use Rattle.acsl_encode.specs.WellFormed.{IsInt, TermsFit, SlotFits, SeenFits, ReadingFits}
-use Rattle.acsl_encode.specs.Setting.{params_of, memory_params, global_params, all_params, params_in, names_of, slot_in, or_home, body_slot, unseen, Known, body_reading, numbers_in, pointers_in, memory_name, memory_var, blocks_name, offsets_name}
+use Rattle.acsl_encode.specs.Setting.{params_of, memory_params, global_params, all_params, params_in, names_of, slot_in, or_home, body_slot, unseen, Known}
+use Rattle.acsl_encode.specs.Setting.{body_reading, numbers_in, pointers_in, memory_name, memory_var, blocks_name, offsets_name}
 use Rattle.acsl_encode.specs.Regular.{AllOf, NamedFits, GlobalFits, CalledFits}
 use Rattle.acsl_encode.proofs.Naming.{has_mark}
 use Rattle.acsl_encode.proofs.Fitted.{NamesFit}
@@ -41,7 +42,8 @@ of_both : {X : Type 0} (p : X → Type 0) (xs ys : List X) → AllOf p xs → Al
 of_both p [] ys h k = k
 of_both p (x ∷ xs) ys h k = (h.0, of_both p xs ys h.1 k)
 
-all_free : {X : Type 0} (f : X → List Param) (u : X → Type 0) → ((x : X) → u x → AllOf IsFreeParam (f x)) → (xs : List X) → AllOf u xs → AllOf IsFreeParam (all_params f xs)
+all_free : {X : Type 0} (f : X → List Param) (u : X → Type 0) → ((x : X) → u x → AllOf IsFreeParam (f x)) → (xs : List X) → AllOf u xs → AllOf IsFreeParam
+    (all_params f xs)
 all_free f u each [] h = tt
 all_free f u each (x ∷ xs) h = of_both IsFreeParam (f x) (all_params f xs) (each x h.0) (all_free f u each xs h.1)
 
@@ -63,13 +65,15 @@ params_free c h =
     of_both IsFreeParam (all_params params_of c.params) _ (all_free params_of NamedFits named_free c.params h.params)
     (of_both IsFreeParam (all_params memory_params c.memories) _ (memories_free c.memories) (all_free global_params GlobalFits global_free c.globals h.globals))
 
-still_value : (names : Spelled) (r : Common) → ((n : ℕ) → r.binder n ≡ numbered names n) → (env env' : Values) → Later r.binder 0 env env' → (x : List ℕ) (s : _)
+still_value : (names : Spelled) (r : Common) → ((n : ℕ) → r.binder n ≡ numbered names n) → (env env' : Values) → Later r.binder 0 env env' → (x : List ℕ)
+    (s : _)
     → (s ≡ sort.Int → Lacks mark x) → value_of env' x s ≡ value_of env x s
 still_value names r is env env' l x sort.Int free = ap Whole (l.ints x (λ n le e. has_mark names n (subst (Lacks mark) (sym e ∙ is n) (free refl))))
 still_value names r is env env' l x sort.Memory free = ap Cells (l.memories x)
 still_value names r is env env' l x sort.Table free = ap Blocks (l.tables x)
 
-still_bound : (names : Spelled) (r : Common) → ((n : ℕ) → r.binder n ≡ numbered names n) → (env env' : Values) → Later r.binder 0 env env' → (ps : List Param) (vs : Given)
+still_bound : (names : Spelled) (r : Common) → ((n : ℕ) → r.binder n ≡ numbered names n) → (env env' : Values) → Later r.binder 0 env env' → (ps : List Param)
+    (vs : Given)
     → AllOf IsFreeParam ps → AllBound env ps vs → AllBound env' ps vs
 still_bound names r is env env' l [] [] f h = tt
 still_bound names r is env env' l [] (v ∷ vs) f h = h
@@ -77,7 +81,8 @@ still_bound names r is env env' l (p ∷ ps) [] f h = h
 still_bound names r is env env' l (p ∷ ps) (v ∷ vs) f h =
     (still_value names r is env env' l p.name p.sort f.0 ∙ h.0, still_bound names r is env env' l ps vs f.1 h.1)
 
-pub later_bound : (names : Spelled) (r : Common) → ((n : ℕ) → r.binder n ≡ numbered names n) → (env env' : Values) → Later r.binder 0 env env' → (c : Called) → CalledFits c
+pub later_bound : (names : Spelled) (r : Common) → ((n : ℕ) → r.binder n ≡ numbered names n) → (env env' : Values) → Later r.binder 0 env env' → (c : Called)
+    → CalledFits c
     → (vs : Given) → AllBound env (params_in c) vs → AllBound env' (params_in c) vs
 later_bound names r is env env' l c h vs k = still_bound names r is env env' l (params_in c) vs (params_free c h) k
 

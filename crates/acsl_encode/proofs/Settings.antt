@@ -20,7 +20,8 @@ use Rattle.acsl_encode.specs.Readings.{Named, one, two, Called, Common}
 use Rattle.acsl_encode.specs.Encode.{on_two}
 use Rattle.acsl_encode.specs.Binders.{Spelled}
 use Rattle.acsl_encode.specs.Calls.{Given, AreArguments, AllAre, IsMemory, IsGlobal, Shares, CallStands}
-use Rattle.acsl_encode.specs.Setting.{params_of, memory_params, global_params, all_params, params_in, Known, body_term, with_called, number_place, function_of, logic_of, logic_at, in_form, known_first, more_logic, logic_first}
+use Rattle.acsl_encode.specs.Setting.{params_of, memory_params, global_params, all_params, params_in, Known, body_term, with_called, number_place}
+use Rattle.acsl_encode.specs.Setting.{function_of, logic_of, logic_at, in_form, known_first, more_logic, logic_first}
 use Rattle.acsl_encode.specs.Regular.{CalledFits, Descends, InOrder, SettingStands}
 use Rattle.acsl_encode.proofs.Descending.{count_same, front_length, descended}
 use Rattle.acsl_encode.proofs.Bound.{both_arguments}
@@ -53,12 +54,14 @@ last_argument (two b o ∷ front) y (v ∷ vs) args rest h =
 
 -- ---- counts
 
-all_counted : (r : Common) (c : Called) (vs : List Value) (w : World) (args ms gs : Given) → AreArguments c.params vs args → AllAre (IsMemory r.model w.here) c.memories ms
+all_counted : (r : Common) (c : Called) (vs : List Value) (w : World) (args ms gs : Given) → AreArguments c.params vs args → AllAre
+    (IsMemory r.model w.here) c.memories ms
     → AllAre (IsGlobal r w.here) c.globals gs → are_arguments (params_in c) (args ++ (ms ++ gs)) ≡ true
 all_counted r c vs w args ms gs a b g =
     both_arguments (all_params params_of c.params) (all_params memory_params c.memories ++ all_params global_params c.globals) args (ms ++ gs)
     (arguments_count c.params vs args a)
-    (both_arguments (all_params memory_params c.memories) (all_params global_params c.globals) ms gs (memories_count r w.here c.memories ms b) (globals_count r w.here c.globals gs g))
+    (both_arguments (all_params memory_params c.memories) (all_params global_params c.globals) ms gs (memories_count r w.here c.memories ms b)
+    (globals_count r w.here c.globals gs g))
 
 -- ---- what is made
 
@@ -147,15 +150,19 @@ module _ (names : Spelled) (r : Common) (told : ℕ → Called) (ds : List Defin
 
     abbrev body : Tree
     body =
-        three hd.Choose (two_kids (hd.Compare cmp.AtMost) (leaf (hd.Name (length d.front))) (leaf (hd.Number d.recursion.bound))) d.recursion.base d.recursion.step
+        three hd.Choose (two_kids (hd.Compare cmp.AtMost) (leaf (hd.Name (length d.front)))
+        (leaf (hd.Number d.recursion.bound))) d.recursion.base d.recursion.step
 
-    body_stands : (l : Logic) → logic_of r (known n) n c body ≡ Some l → (vs : List Value) (w : World) (args ms gs : Given) → Shares r w → AreArguments c.params vs args
+    body_stands : (l : Logic) → logic_of r (known n) n c body ≡ Some l → (vs : List Value) (w : World) (args ms gs : Given) → Shares r w
+        → AreArguments c.params vs args
         → AllAre (IsMemory r.model w.here) c.memories ms → AllAre (IsGlobal r w.here) c.globals gs
         → recursive_value (calls_first ds n) n body vs w ≡ number (after bits (apps n) l c.name (args ++ (ms ++ gs)))
     body_stands l made vs w args ms gs s a b g =
-        descended names good.spelled r good.binders good.binders_fit (known n) (names_are n) n c fits d.front d.last d.params d.recursion.bound d.recursion.base d.recursion.step
+        descended names good.spelled r good.binders good.binders_fit (known n)
+        (names_are n) n c fits d.front d.last d.params d.recursion.bound d.recursion.base d.recursion.step
         d.recursion.step_goes arms.first arms.second arms.is_first arms.is_second (apps n) (calls_first ds n) before (differs n)
-        (to_nat (number_of (last_of vs) -ℤ d.recursion.bound)) vs w args ms gs s a b g (ap (λ k. to_nat (number_of (value_at vs k) -ℤ d.recursion.bound)) (sym long))
+        (to_nat (number_of (last_of vs) -ℤ d.recursion.bound)) vs w args ms gs s a b g
+        (ap (λ k. to_nat (number_of (value_at vs k) -ℤ d.recursion.bound)) (sym long))
         ∙ ap (λ k. number (descend bits (apps n) made_of (to_nat (k -ℤ d.recursion.bound)) vals)) (sym last_is)
         ∙ sym (ap (λ t. number (cond t (descend bits (apps n) made_of (steps_of made_of vals) vals) (apps n c.name vals))) used)
         ∙ ap (λ f. number (after bits (apps n) f c.name vals)) arms.made
@@ -163,8 +170,10 @@ module _ (names : Spelled) (r : Common) (told : ℕ → Called) (ds : List Defin
         fits : CalledFits c
         fits = good.called n recursive
 
-        arms : BothThere Term Logic (function_of c d.recursion.bound) (body_term r (known n) c d.recursion.base) (body_term r (with_called n (Some c) (known n)) c d.recursion.step) l
-        arms = both_there Term Logic (function_of c d.recursion.bound) (body_term r (known n) c d.recursion.base) (body_term r (with_called n (Some c) (known n)) c d.recursion.step) l made
+        arms : BothThere Term Logic (function_of c d.recursion.bound) (body_term r (known n) c d.recursion.base)
+            (body_term r (with_called n (Some c) (known n)) c d.recursion.step) l
+        arms = both_there Term Logic (function_of c d.recursion.bound) (body_term r (known n) c d.recursion.base)
+            (body_term r (with_called n (Some c) (known n)) c d.recursion.step) l made
 
         made_of : Logic
         made_of = function_of c d.recursion.bound arms.first arms.second
@@ -177,7 +186,8 @@ module _ (names : Spelled) (r : Common) (told : ℕ → Called) (ds : List Defin
 
         last_is : argument_at vals (number_place c) ≡ number_of (last_of vs)
         last_is =
-            let p : number_place c ≡ place d.front = let e = ap (λ ps. length (all_params params_of ps)) d.params ∙ flat_count d.front d.last in omega (arith, e) in
+            let p : number_place c ≡ place d.front = let e = ap (λ ps. length (all_params params_of ps)) d.params ∙ flat_count d.front d.last in omega
+            (arith, e) in
             ap (argument_at vals) p ∙ last_argument d.front d.last vs args (ms ++ gs) (subst (λ ps. AreArguments ps vs args) d.params a)
             ∙ ap (λ k. number_of (value_at vs k)) (sym long)
 
@@ -189,7 +199,8 @@ module _ (names : Spelled) (r : Common) (told : ℕ → Called) (ds : List Defin
     own_stands : (l : Logic) → logic_of r (known n) n c (definition_at ds n).body ≡ Some l → CallStands (after bits (apps n) l) (calls_first ds (suc n)) r n c
     own_stands l made vs w args ms gs s a b g =
         ap (λ t. if t then call_value (calls_first ds n) n (definition_at ds n) vs w else calls_first ds n n vs w) ((Decides-eqb n n).1 refl)
-        ∙ ap (λ t. if t then recursive_value (calls_first ds n) n (definition_at ds n).body vs w else body_value (calls_first ds n) (definition_at ds n).body vs w) recursive
+        ∙ ap (λ t. if t then recursive_value (calls_first ds n) n (definition_at ds n).body vs w else body_value (calls_first ds n)
+        (definition_at ds n).body vs w) recursive
         ∙ ap (λ t. recursive_value (calls_first ds n) n t vs w) d.recursion.is
         ∙ body_stands l (subst (λ t. logic_of r (known n) n c t ≡ Some l) d.recursion.is made) vs w args ms gs s a b g
 
@@ -202,7 +213,8 @@ module _ (names : Spelled) (r : Common) (told : ℕ → Called) (ds : List Defin
       ∙ before f c h vs w args ms gs s a b g ∙ ap number (sym (same (args ++ (ms ++ gs))))
 
   -- a function that is made changes no other one
-  after_other : (n f : ℕ) (c : Called) (l : Logic) → known n f ≡ Some c → l.name ≡ (told n).name → (vals : Given) → after bits (apps n) l c.name vals ≡ apps n c.name vals
+  after_other : (n f : ℕ) (c : Called) (l : Logic) → known n f ≡ Some c → l.name ≡ (told n).name → (vals : Given) → after bits (apps n) l c.name vals
+      ≡ apps n c.name vals
   after_other n f c l h named vals =
       ap (λ b. cond (b && are_arguments l.params vals) (descend bits (apps n) l (steps_of l vals) vals) (apps n c.name vals))
       (ap (bytes_eq c.name) named ∙ (differs n f c h).1)
@@ -210,7 +222,8 @@ module _ (names : Spelled) (r : Common) (told : ℕ → Called) (ds : List Defin
   made_named : (n : ℕ) (l : Logic) → logic_of r (known n) n (told n) (definition_at ds n).body ≡ Some l → l.name ≡ (told n).name
   made_named n l made =
       let t = (definition_at ds n).body in
-      let arms = both_there Term Logic (function_of (told n) (test_number t)) (body_term r (known n) (told n) (kid t 1)) (body_term r (with_called n (Some (told n)) (known n)) (told n) (kid t 2)) l made in
+      let arms = both_there Term Logic (function_of (told n) (test_number t)) (body_term r (known n) (told n) (kid t 1))
+      (body_term r (with_called n (Some (told n)) (known n)) (told n) (kid t 2)) l made in
       ap (λ (f : Logic). f.name) (sym arms.made)
 
   all_stand : (n : ℕ) → Stand n

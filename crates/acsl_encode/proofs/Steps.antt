@@ -39,7 +39,8 @@ one_is (pos zero) h = absurd (false≢true h)
 one_is (pos (suc (suc k))) h = absurd (false≢true h)
 one_is (negsuc k) h = absurd (false≢true h)
 
-less_value : (m : Calls) (env : Env) (d : ℕ) (w : World) (x : ℕ) (t : Tree) → is_one_less x t ≡ true → number_of (value m env d w t) ≡ number_of (env x) -ℤ pos 1
+less_value : (m : Calls) (env : Env) (d : ℕ) (w : World) (x : ℕ) (t : Tree) → is_one_less x t ≡ true → number_of (value m env d w t) ≡ number_of
+    (env x) -ℤ pos 1
 less_value m env d w x (node (hd.Arithmetic ar.Sub) (more (node (hd.Name y) us) (more (node (hd.Number z) vs) stop))) h =
     let p = and_parts (y == x) (is_one z) h in
     ap (λ k. number_of (env k) -ℤ z) (eqb-true y x p.0) ∙ ap (λ k. number_of (env x) -ℤ k) (one_is z p.1)
@@ -89,7 +90,8 @@ module _ (q : Logic) (m : Calls) (r : Reading) (known : Known) (n x : ℕ) (c : 
       own_case so =
           let is : f ≡ n = eqb-true f n so in
           let less : is_one_less x (last_kid ks) ≡ true = ap (λ b. if b then is_one_less x (last_kid ks) else true) (sym so) ∙ goes in
-          let at : number_of (last_of (all_meant ks)) ≡ number_of (vals x) -ℤ pos 1 = ap number_of (last_value m vals d w ks) ∙ less_value m vals d w x (last_kid ks) less in
+          let at : number_of (last_of (all_meant ks)) ≡ number_of (vals x) -ℤ pos 1 = ap number_of (last_value m vals d w ks) ∙ less_value m vals d w x
+          (last_kid ks) less in
           subst (λ b. Means q r.common env (encode.called r (if b then Some c else known f) (all_terms i ks)) (m f (all_meant ks) w)) (sym so)
           (subst (λ g. Means q r.common env (encode.called r (Some c) (all_terms i ks)) (m g (all_meant ks) w)) (sym is)
           (call_means q env r w stands good m n c (all_terms i ks) (all_meant ks) h fits (own (all_meant ks) at)))
@@ -116,7 +118,8 @@ module _ (q : Logic) (m : Calls) (r : Reading) (known : Known) (n x : ℕ) (c : 
   node_means hd.Chain i ks h plain goes = chain_means q r env (heads_of ks) (all_terms i ks) (all_meant ks) h
   node_means (hd.Valid k writable) i ks h plain goes =
       let x = terms_at (all_terms (i + encode.own_binders (hd.Valid k writable) (heads_of ks)) ks) 0 in
-      subst (λ o. Means q r.common env (encode.valid (r.common.binder i) writable (encode.content_cells r.common k) o x) (meant (node (hd.Valid k writable) ks))) (sym no_table)
+      subst (λ o. Means q r.common env (encode.valid (r.common.binder i) writable (encode.content_cells r.common k) o x)
+      (meant (node (hd.Valid k writable) ks))) (sym no_table)
       (without_table q r.common env (r.common.binder i) writable (encode.content_cells r.common k) x (meant (node (hd.Valid k writable) ks)))
   node_means head i ks h plain goes = applied_means q r env (all_terms i ks) (all_meant ks) h w stands head
 

@@ -61,11 +61,13 @@ module _ (q : Logic) (names : Spelled) (b : Binders) (is : (n : ℕ) → b n ≡
       variables = λ x. slot_stands x (s.variable x) st (u.variables x) (h.variables x);
       table = still IsUnmarked (λ t. meant.table (meaning q env t) ≡ st.blocks) (λ t. meant.table (meaning q env' t) ≡ st.blocks) s.table u.table h.table
           (λ t v k. ap meant.table (sym (unmarked_means t v)) ∙ k);
-      numbers = λ k. still IsUnmarked (λ t. NumbersHeld r.model k (memory_in q env t) st) (λ t. NumbersHeld r.model k (memory_in q env' t) st) (s.numbers k) (u.numbers k)
+      numbers = λ k. still IsUnmarked (λ t. NumbersHeld r.model k (memory_in q env t) st) (λ t. NumbersHeld r.model k (memory_in q env' t) st) (s.numbers k)
+          (u.numbers k)
           (h.numbers k) (λ t v held. subst (λ m. NumbersHeld r.model k m st) (memory_same t v) held);
       pointers = still (λ p. IsUnmarked p.block × IsUnmarked p.offset) (λ p. PointersHeld (memory_in q env p.block) (memory_in q env p.offset) st)
           (λ p. PointersHeld (memory_in q env' p.block) (memory_in q env' p.offset) st) s.pointers u.pointers h.pointers
-          (λ p v held. subst (λ m. PointersHeld (memory_in q env' p.block) m st) (memory_same p.offset v.1) (subst (λ m. PointersHeld m (memory_in q env p.offset) st) (memory_same p.block v.0) held));
+          (λ p v held. subst (λ m. PointersHeld (memory_in q env' p.block) m st) (memory_same p.offset v.1)
+          (subst (λ m. PointersHeld m (memory_in q env p.offset) st) (memory_same p.block v.0) held));
     }
 
 pub still_stands : (q : Logic) (names : Spelled) (r : Reading) (env : Values) (w : World) → IsUnbound names r → Stands q r env w

@@ -1,5 +1,6 @@
 -- Formulas of annotations, which are taken over as they stand (ACSL 2.2, 2.4.3, 2.7): nothing is folded, and nothing is checked.
-use Rattle.std.specs.Prelude.{ℕ, zero, suc, ◌+◌, ◌-◌, ◌==◌, Bool, true, false, if◌then◌else◌, pos, ◌+ℤ◌, List, [], ◌∷◌, ◌++◌, length, slice_index_or, Option, Some, None}
+use Rattle.std.specs.Prelude.{ℕ, zero, suc, ◌+◌, ◌-◌, ◌==◌, Bool, true, false, if◌then◌else◌, pos, ◌+ℤ◌, List, [], ◌∷◌, ◌++◌, length, slice_index_or, Option}
+use Rattle.std.specs.Prelude.{Some, None}
 use Rattle.std.specs.Option.{option_map}
 use Rattle.wp_base.specs.declared.kinds.Kind.{Kind}
 use Rattle.wp_base.specs.declared.kinds.Kind.TheVariants as kind
@@ -30,7 +31,8 @@ use Rattle.qed_terms.specs.declared.head.TermOp.{TermOp}
 use Rattle.qed_terms.specs.declared.head.TermOp.TheVariants as op
 use Rattle.qed_terms.specs.Tree as tree
 use Rattle.qed_terms.specs.Tree.{Tree as Term, num, var, true_tree, at_most, less, equal, ite, not_of, and_of, or_of, imp_of}
-use Rattle.acsl_encode.specs.Readings.{Pointer, at, Named, one, two, Global, integer_global, pointer_global, Called, Terms, integer, truth, address, variable, nothing, Slot, whole, pointer, home, absent, Seen, Reading, moved_to, seen_in, elements, Common}
+use Rattle.acsl_encode.specs.Readings.{Pointer, at, Named, one, two, Global, integer_global, pointer_global, Called, Terms, integer, truth, address, variable}
+use Rattle.acsl_encode.specs.Readings.{nothing, Slot, whole, pointer, home, absent, Seen, Reading, moved_to, seen_in, elements, Common}
 
 -- ---- terms and formulas
 
@@ -371,7 +373,8 @@ element_at o size t = op_two op.Add o (times size t)
 abbrev pub valid : (binder : List ℕ) → (writable : Bool) → List CellKind → (table : Option Term) → Terms → Terms
 valid x writable ks table (address b o) = with_one (λ t. truth (all_of (good_cells writable t b o ks 0))) table
 valid x writable ks table (elements b o size low high) =
-    with_one (λ t. truth (over (th.Forall x) (record { low = low; high = one_more high }) (all_of (good_cells writable t b (element_at o size (var x)) ks 0)))) table
+    with_one (λ t. truth (over (th.Forall x) (record { low = low; high = one_more high })
+    (all_of (good_cells writable t b (element_at o size (var x)) ks 0)))) table
 valid x writable ks table _ = nothing
 
 abbrev pub is_range : List Head → Bool

@@ -128,7 +128,8 @@ pub record Casts : Type 0 where
   pub narrower : IsTerm (one (h.Convert kind.Char) x_read) (op_one (op.Wrap kind.Char) x_term)
   pub wider : IsTerm (one (h.Convert kind.Long) x_read) x_term
   pub bool : IsTerm (one (h.Convert kind.Bool) x_read) (ite (equal x_term (num (pos 0))) (num (pos 0)) (num (pos 1)))
-  pub integer : IsTerm (one (h.Convert kind.LLong) (two (h.Arithmetic ar.Add) x_read (spelled 1))) (op_one (op.Wrap kind.LLong) (op_two op.Add x_term (num (pos 1))))
+  pub integer : IsTerm (one (h.Convert kind.LLong) (two (h.Arithmetic ar.Add) x_read (spelled 1)))
+      (op_one (op.Wrap kind.LLong) (op_two op.Add x_term (num (pos 1))))
 
 pub record States : Type 0 where
   pub old : IsTerm (one (h.At label.Pre) x_read) (num (pos 7))
@@ -141,8 +142,10 @@ pub record Binders : Type 0 where
       (tree.node (th.Forall (codes "k!1")) (tree.three (op_two op.Add (num (pos 0)) (num (pos 1))) (op_two op.Add x_term (num (pos 1))) (five k_one)))
   pub some : IsFormula (three (h.Some (range.Between false true)) (spelled 0) x_read (is_five (leaf (h.Name 0))))
       (tree.node (th.Exists (codes "k!1")) (tree.three (num (pos 0)) x_term (five k_one)))
-  pub inner : IsFormula (one (h.Every (range.Kind kind.UChar)) (one (h.Some (range.Kind kind.Bool)) (two (h.Compare cmp.Less) (leaf (h.Name 0)) (leaf (h.Name 1)))))
-      (tree.node (th.Forall (codes "k!1")) (tree.three (num (pos 0)) (num (pos 256)) (tree.node (th.Exists (codes "k!2")) (tree.three (num (pos 0)) (num (pos 2)) (less k_one k_two)))))
+  pub inner : IsFormula (one (h.Every (range.Kind kind.UChar)) (one (h.Some (range.Kind kind.Bool))
+      (two (h.Compare cmp.Less) (leaf (h.Name 0)) (leaf (h.Name 1)))))
+      (tree.node (th.Forall (codes "k!1")) (tree.three (num (pos 0)) (num (pos 256))
+      (tree.node (th.Exists (codes "k!2")) (tree.three (num (pos 0)) (num (pos 2)) (less k_one k_two)))))
 
 pub record Pointers : Type 0 where
   pub pointed : IsTerm (one (h.Read (content.Integer kind.Int) None) (one h.Pointed p_read))
@@ -150,7 +153,8 @@ pub record Pointers : Type 0 where
   pub null : IsFormula (two (h.ComparePointers cmp.Equal) p_read (leaf h.Null)) (and_of (equal p_block (num (pos 0)) ∷ equal p_offset (num (pos 0)) ∷ []))
   pub difference : IsTerm (two (h.Difference 2) p_read p_read) (op_two op.Div (op_two op.Sub p_offset p_offset) (num (pos 2)))
   pub valid : IsFormula (one (h.Valid (content.Integer kind.Int) true) (one h.Pointed p_read)) (cell_of (form.Write (cell.Of kind.Int)) p_offset)
-  pub elements : IsFormula (two h.And (one (h.Every (range.Kind kind.Bool)) (is_five (leaf (h.Name 0)))) (one (h.Valid (content.Struct 0) false) (three (h.Behind 2) p_read (spelled 0) x_read)))
+  pub elements : IsFormula (two h.And (one (h.Every (range.Kind kind.Bool)) (is_five (leaf (h.Name 0))))
+      (one (h.Valid (content.Struct 0) false) (three (h.Behind 2) p_read (spelled 0) x_read)))
       (and_of (tree.node (th.Forall (codes "k!1")) (tree.three (num (pos 0)) (num (pos 2)) (five k_one))
       ∷ tree.node (th.Forall (codes "k!2")) (tree.three (num (pos 0)) (op_two op.Add x_term (num (pos 1))) (and_of (
       cell_of (form.Read (cell.Of kind.Int)) (op_two op.Add p_offset (op_two op.Mul (num (pos 2)) k_two))

@@ -17,7 +17,8 @@ use Rattle.qed_terms.specs.Names.{kind_names}
 use Rattle.qed_terms.specs.Setting.{Param, Logic, Setting}
 use Rattle.qed_terms.specs.Tree as tree
 use Rattle.qed_terms.specs.Tree.{Tree as Term, num, var}
-use Rattle.acsl_encode.specs.Readings.{Pointer, at, Named, one, two, Global, integer_global, pointer_global, Called, Terms, address, nothing, Slot, whole, pointer, home, absent, Seen, Common, Reading}
+use Rattle.acsl_encode.specs.Readings.{Pointer, at, Named, one, two, Global, integer_global, pointer_global, Called, Terms, address, nothing, Slot, whole}
+use Rattle.acsl_encode.specs.Readings.{pointer, home, absent, Seen, Common, Reading}
 use Rattle.acsl_encode.specs.Encode.{Names, unbounded, as_integer, terms_at, encoded, on_two}
 
 -- ---- names

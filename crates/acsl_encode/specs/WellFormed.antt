@@ -6,7 +6,8 @@ use Rattle.acsl_trees.specs.Tree.{Tree}
 use Rattle.qed_terms.specs.Tree.{Tree as Term, var}
 use Rattle.qed_terms.specs.Names.{is_name}
 use Rattle.qed_terms.specs.WellFormed.{fits, int, mem, tab, formula, argument}
-use Rattle.acsl_encode.specs.Readings.{Called, Terms, integer, truth, address, variable, elements, nothing, Pointer, Slot, whole, pointer, home, absent, Seen, Reading}
+use Rattle.acsl_encode.specs.Readings.{Called, Terms, integer, truth, address, variable, elements, nothing, Pointer, Slot, whole, pointer, home, absent, Seen}
+use Rattle.acsl_encode.specs.Readings.{Reading}
 use Rattle.acsl_encode.specs.Meaning.{Holds}
 use Rattle.acsl_encode.specs.Encode.{term_of, formula_of, pointer_of}
 

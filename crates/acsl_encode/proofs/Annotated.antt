@@ -25,6 +25,7 @@ use Rattle.acsl_encode.proofs.Around.{Around, later_same, later_bound, this_int,
 use Rattle.acsl_encode.proofs.Fitted.{AllFit, kid_fits, trees_fit}
 use Rattle.acsl_encode.proofs.Calling.{call_means, shared}
 use Rattle.acsl_encode.proofs.Cells.{valid_means}
+use Rattle.acsl_encode.proofs.Regions.{region_means, separated_means}
 use Rattle.acsl_encode.proofs.Ranging.{Reach, Body, ends_mean, every_means, some_means, inside_kind}
 
 module _ (q : Logic) (m : truth.Calls) where
@@ -136,7 +137,7 @@ module _ (q : Logic) (m : truth.Calls) where
 
   -- ---- cells that may be read or written
 
-  same_cells : (r : Common) (w : World) (k : Content) → ((n : ℕ) → r.structs n ≡ w.structs n) → encode.content_cells r k ≡ state.content_cells w k
+  pub same_cells : (r : Common) (w : World) (k : Content) → ((n : ℕ) → r.structs n ≡ w.structs n) → encode.content_cells r k ≡ state.content_cells w k
   same_cells r w (content.Integer k) h = refl
   same_cells r w content.Pointer h = refl
   same_cells r w (content.Struct n) h = h n
@@ -164,6 +165,13 @@ module _ (q : Logic) (m : truth.Calls) where
       here : (a : Around q m) → Stands q a.r a.env a.w
       here a = a.stands a.env (later_same a.r.common.binder a.i a.env)
 
+  region_meant : (k : Content) (ks : Trees) → AllMeant ks → Meant (node (hd.Region k) ks)
+  region_meant k ks h c =
+      subst (λ cells. Means q c.r.common c.env (terms c (node (hd.Region k) ks)) (state.region cells (state.span_of (truth.first (all_meant c ks)))))
+      (same_cells c.r.common c.w k (c.stands c.env (later_same c.r.common.binder c.i c.env)).structs)
+      (region_means q c.r c.env (encode.content_cells c.r.common k) (terms_at (all_terms c ks) 0) (truth.first (all_meant c ks))
+      (kid_means q c.r.common c.env (all_terms c ks) (all_meant c ks) 0 (h c)))
+
   mutual
     pub same_meaning : (t : Tree) → Meant t
     same_meaning (node (hd.Name x) ks) c = c.fits c.env (later_same c.r.common.binder c.i c.env) x
@@ -174,6 +182,8 @@ module _ (q : Logic) (m : truth.Calls) where
     same_meaning (node (hd.Some g) ks) c = some_meant g ks (same_meanings ks) c
     same_meaning (node hd.Chain ks) c = chain_means q c.r c.env (heads_of ks) (all_terms c ks) (all_meant c ks) (same_meanings ks c)
     same_meaning (node (hd.Valid k writable) ks) c = valid_meant k writable ks (same_meanings ks) c
+    same_meaning (node hd.Separated ks) c = separated_means q c.r c.env (all_terms c ks) (all_meant c ks) (same_meanings ks c)
+    same_meaning (node (hd.Region k) ks) c = region_meant k ks (same_meanings ks) c
     same_meaning (node head ks) c = plain_meant head ks (same_meanings ks) c
 
     pub same_meanings : (ts : Trees) → AllMeant ts

@@ -11,7 +11,7 @@ use Rattle.qed_terms.specs.Tree.{Tree as Term, var}
 use Rattle.qed_terms.specs.Meaning as meant
 use Rattle.qed_terms.specs.Meaning.{Values, World as Logic, with_int, meaning, each_true}
 use Rattle.acsl_encode.specs.Readings as reading
-use Rattle.acsl_encode.specs.Readings.{Terms, integer, address, variable, elements, nothing, Common, Reading}
+use Rattle.acsl_encode.specs.Readings.{Terms, integer, address, variable, elements, region, nothing, Common, Reading}
 use Rattle.acsl_encode.specs.Encode.{good_cell, good_cells, element_at, times, further, one_more, all_of, valid, quantified}
 use Rattle.acsl_encode.specs.Meaning.{Holds, number_in, is_so_in, Means}
 use Rattle.acsl_encode.proofs.Numbers.{sum_two, none_more}
@@ -91,6 +91,8 @@ module _ (q : Logic) (r : Reading) where
   valid_means env x writable ks (Some t) (elements b e size low high) v blocks h table later tables bound =
       range_valid env x writable t b e size low high ks v blocks h later tables bound
   valid_means env x writable ks None (elements b e size low high) v blocks h table later tables bound = tt
+  valid_means env x writable ks (Some t) (region cells b i j) v blocks h table later tables bound = tt
+  valid_means env x writable ks None (region cells b i j) v blocks h table later tables bound = tt
   valid_means env x writable ks o (integer l t) v blocks h table later tables bound = tt
   valid_means env x writable ks o (reading.truth f) v blocks h table later tables bound = tt
   valid_means env x writable ks o (variable y) v blocks h table later tables bound = tt

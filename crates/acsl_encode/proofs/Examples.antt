@@ -23,5 +23,5 @@ examples_hold = record {
   casts = record { narrower = refl; wider = refl; bool = refl; integer = refl };
   states = record { old = refl; entry = refl; named = refl; result = refl };
   binders = record { every = refl; some = refl; inner = refl };
-  pointers = record { pointed = refl; null = refl; difference = refl; valid = refl; elements = refl; call = refl };
+  pointers = record { pointed = refl; null = refl; difference = refl; valid = refl; elements = refl; separated = refl; call = refl };
 }

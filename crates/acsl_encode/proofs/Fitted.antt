@@ -2,6 +2,7 @@
 use Rattle.std.proofs.Common.{◌≡◌, ℕ, zero, suc, ◌+◌, ◌==◌, Bool, true, false, ◌&&◌, List, [], ◌∷◌, ◌++◌, length, refl, subst}
 use Rattle.std.specs.Prelude.{pos, ◌-◌, ◌+ℤ◌, Option, Some, None, if◌then◌else◌}
 use Rattle.typed_prog.specs.declared.operators.Arithmetic.TheVariants as ar
+use Rattle.typed_prog.specs.declared.operators.Comparison.TheVariants as cmp
 use Rattle.c_kinds.specs.declared.models.Machdep.{Machdep}
 use Rattle.c_kinds.specs.Models.{low, high}
 use Rattle.acsl_trees.specs.declared.heads.Label.{Label}
@@ -337,7 +338,69 @@ valid_fits x writable ks o (reading.elements b e size low high) n h k =
 valid_fits x writable ks o (integer l t) n h k = tt
 valid_fits x writable ks o (reading.truth f) n h k = tt
 valid_fits x writable ks o (reading.variable y) n h k = tt
+valid_fits x writable ks o (reading.region cells b i j) n h k = tt
 valid_fits x writable ks o nothing n h k = tt
+
+-- ---- regions
+
+if_terms : (b : Bool) (x : Terms) → TermsFit x → TermsFit (if b then x else nothing)
+if_terms true x h = h
+if_terms false x h = tt
+
+place_fits : (o : Term) (size : ℕ) (t : Term) → IsInt o → IsInt t → IsInt (encode.element_at o size t)
+place_fits o size t h k = arithmetic_fits ar.Add o (encode.times size t) h (times_fit size t k)
+
+region_fits : (ks : List CellKind) (x : Terms) → TermsFit x → TermsFit (encode.region_of ks x)
+region_fits ks (reading.address b o) h = (h.0, h.1, further_fits (length ks) o h.1)
+region_fits ks (reading.elements b o size low high) h =
+    if_terms (size == length ks) (reading.region ks b (encode.element_at o size low) (encode.element_at o size (encode.one_more high)))
+    (h.0, place_fits o size low h.1 h.2, place_fits o size (encode.one_more high) h.1 (high_fits false high h.3))
+region_fits ks (integer k t) h = tt
+region_fits ks (reading.truth f) h = tt
+region_fits ks (reading.variable y) h = tt
+region_fits ks (reading.region cells b i j) h = tt
+region_fits ks nothing h = tt
+
+apart_by_fits : (b i j c k l : Term) → IsInt b → IsInt i → IsInt j → IsInt c → IsInt k → IsInt l → IsFormula (encode.apart_by b i j c k l)
+apart_by_fits b i j c k l hb hi hj hc hk hl =
+    let e1 = not_fits (comparison cmp.Equal b c) (comparison_fits cmp.Equal b c hb hc) in
+    let e2 = comparison_fits cmp.AtMost j k hj hk in
+    let e3 = comparison_fits cmp.AtMost l i hl hi in
+    let e4 = comparison_fits cmp.AtMost j i hj hi in
+    let e5 = comparison_fits cmp.AtMost l k hl hk in
+    λ z. e1 z && (e2 z && (e3 z && (e4 z && (e5 z && true))))
+
+apart_fits : (x y : Terms) → TermsFit x → TermsFit y → Holds IsFormula (encode.apart x y)
+apart_fits (reading.region ks b i j) (reading.region ls c k l) h e = apart_by_fits b i j c k l h.0 h.1 h.2 e.0 e.1 e.2
+apart_fits (reading.region ks b i j) (integer k t) h e = tt
+apart_fits (reading.region ks b i j) (reading.truth f) h e = tt
+apart_fits (reading.region ks b i j) (reading.address c o) h e = tt
+apart_fits (reading.region ks b i j) (reading.variable y) h e = tt
+apart_fits (reading.region ks b i j) (reading.elements c o n k l) h e = tt
+apart_fits (reading.region ks b i j) nothing h e = tt
+apart_fits (integer k t) y h e = tt
+apart_fits (reading.truth f) y h e = tt
+apart_fits (reading.address b o) y h e = tt
+apart_fits (reading.variable x) y h e = tt
+apart_fits (reading.elements b o n i j) y h e = tt
+apart_fits nothing y h e = tt
+
+apart_all_fit : (x : Terms) (ys : List Terms) → TermsFit x → AllFit ys → Holds AllFormulas (encode.apart_all x ys)
+apart_all_fit x [] h k = tt
+apart_all_fit x (y ∷ ys) h k = both_there (encode.apart x y) (encode.apart_all x ys) (apart_fits x y h k.0) (apart_all_fit x ys h k.1)
+
+put_formulas : (o o' : Option (List Term)) → Holds AllFormulas o → Holds AllFormulas o' → Holds AllFormulas (put o o')
+put_formulas (Some fs) (Some gs) h k = all_formulas fs gs h k
+  where
+    all_formulas : (fs gs : List Term) → AllFormulas fs → AllFormulas gs → AllFormulas (fs ++ gs)
+    all_formulas [] gs h k = k
+    all_formulas (f ∷ fs) gs h k = (h.0, all_formulas fs gs h.1 k)
+put_formulas (Some fs) None h k = tt
+put_formulas None o' h k = tt
+
+pairs_fit : (xs : List Terms) → AllFit xs → Holds AllFormulas (encode.pairs_apart xs)
+pairs_fit [] h = tt
+pairs_fit (x ∷ xs) h = put_formulas (encode.apart_all x xs) (encode.pairs_apart xs) (apart_all_fit x xs h.0 h.1) (pairs_fit xs h.1)
 
 -- ---- trees
 
@@ -394,6 +457,11 @@ mutual
       valid_fits (r.common.binder i) writable (encode.content_cells r.common c) r.here.table (terms_at (all_encoded r ns at d ks) 0)
       (good.binders i) good.here.table
       (kid_fits (all_encoded r ns at d ks) 0 (trees_fit ks r ns at d good k))
+  tree_fits (node hd.Separated ks) r ns i d good k =
+      on_one AllFormulas (λ fs. reading.truth (all_of fs)) (encode.pairs_apart (all_encoded r ns i d ks))
+      (pairs_fit (all_encoded r ns i d ks) (trees_fit ks r ns i d good k)) all_of_fits
+  tree_fits (node (hd.Region c) ks) r ns i d good k =
+      region_fits (encode.content_cells r.common c) (terms_at (all_encoded r ns i d ks) 0) (kid_fits (all_encoded r ns i d ks) 0 (trees_fit ks r ns i d good k))
   tree_fits (node head ks) r ns i d good k = applied_fits r good (all_encoded r ns i d ks) (trees_fit ks r ns i d good k) head
 
   pub trees_fit : (ts : Trees) → KidsFit ts

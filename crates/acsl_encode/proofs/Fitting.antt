@@ -16,7 +16,8 @@ use Rattle.qed_terms.specs.declared.head.TermOp.TheVariants as op
 use Rattle.qed_terms.specs.Tree.{Tree as Term, trees_of, num, ite, not_of, imp_of}
 use Rattle.qed_terms.specs.WellFormed.{fits, all_fit, each, kid_count, int, mem, formula}
 use Rattle.acsl_encode.specs.Readings as reading
-use Rattle.acsl_encode.specs.Readings.{Pointer, at, Terms, integer, address, variable, elements, nothing, Slot, whole, pointer, home, absent, Seen, Reading}
+use Rattle.acsl_encode.specs.Readings.{Pointer, at, Terms, integer, address, variable, elements, region, nothing, Slot, whole, pointer, home, absent, Seen}
+use Rattle.acsl_encode.specs.Readings.{Reading}
 use Rattle.acsl_encode.specs.Readings.{seen_at, seen_in}
 use Rattle.acsl_encode.specs.Encode as encode
 use Rattle.acsl_encode.specs.Encode.{comparison, pointer_comparison, times, further, difference, wrapped, truth_term, op_of, op_one, op_two, load, iff_of}
@@ -155,6 +156,7 @@ integer_fits (reading.truth f) h = truth_fits f h
 integer_fits (address b o) h = tt
 integer_fits (variable x) h = tt
 integer_fits (elements b o n i j) h = tt
+integer_fits (region cells b i j) h = tt
 integer_fits nothing h = tt
 
 pub formula_fits : (x : Terms) → TermsFit x → Holds IsFormula (as_formula x)
@@ -163,6 +165,7 @@ formula_fits (reading.truth f) h = h
 formula_fits (address b o) h = tt
 formula_fits (variable x) h = tt
 formula_fits (elements b o n i j) h = tt
+formula_fits (region cells b i j) h = tt
 formula_fits nothing h = tt
 
 pub pointer_fits : (x : Terms) → TermsFit x → Holds PointerFits (as_pointer x)
@@ -171,6 +174,7 @@ pointer_fits (reading.truth f) h = tt
 pointer_fits (address b o) h = h
 pointer_fits (variable x) h = tt
 pointer_fits (elements b o n i j) h = tt
+pointer_fits (region cells b i j) h = tt
 pointer_fits nothing h = tt
 
 pub on_one : {X : Type 0} (p : X → Type 0) (f : X → Terms) (o : Option X) → Holds p o → ((x : X) → p x → TermsFit (f x)) → TermsFit (with_one f o)
@@ -217,15 +221,18 @@ read_fits (content.Struct n) s (address b o) h e = e
 read_fits (content.Integer k) s (integer l t) h e = tt
 read_fits (content.Integer k) s (reading.truth f) h e = tt
 read_fits (content.Integer k) s (elements b o n i j) h e = tt
+read_fits (content.Integer k) s (region cells b i j) h e = tt
 read_fits (content.Integer k) s nothing h e = tt
 read_fits content.Pointer s (integer l t) h e = tt
 read_fits content.Pointer s (reading.truth f) h e = tt
 read_fits content.Pointer s (elements b o n i j) h e = tt
+read_fits content.Pointer s (region cells b i j) h e = tt
 read_fits content.Pointer s nothing h e = tt
 read_fits (content.Struct m) s (variable x) h e = tt
 read_fits (content.Struct m) s (integer l t) h e = tt
 read_fits (content.Struct m) s (reading.truth f) h e = tt
 read_fits (content.Struct m) s (elements b o n i j) h e = tt
+read_fits (content.Struct m) s (region cells b i j) h e = tt
 read_fits (content.Struct m) s nothing h e = tt
 
 pub converted_fits : (m : Machdep) (k : Kind) (x : Terms) → TermsFit x → TermsFit (encode.converted m k x)
@@ -235,6 +242,7 @@ converted_fits m k (reading.truth f) h = wrapped_fits k (truth_term f) (truth_fi
 converted_fits m k (address b o) h = tt
 converted_fits m k (variable x) h = tt
 converted_fits m k (elements b o n i j) h = tt
+converted_fits m k (region cells b i j) h = tt
 converted_fits m k nothing h = tt
 
 pub either_fits : (x y : Terms) (c : Term) → IsFormula c → TermsFit x → TermsFit y → TermsFit (encode.either x y c)
@@ -246,16 +254,20 @@ either_fits (address b o) (address b' o') c e h k = (ite_fits c b b' e h.0 k.0, 
 either_fits (reading.truth f) (address b o) c e h k = tt
 either_fits (reading.truth f) (variable x) c e h k = tt
 either_fits (reading.truth f) (elements b o n i j) c e h k = tt
+either_fits (reading.truth f) (region cells b i j) c e h k = tt
 either_fits (reading.truth f) nothing c e h k = tt
 either_fits (integer l t) (address b o) c e h k = tt
 either_fits (integer l t) (variable x) c e h k = tt
 either_fits (integer l t) (elements b o n i j) c e h k = tt
+either_fits (integer l t) (region cells b i j) c e h k = tt
 either_fits (integer l t) nothing c e h k = tt
 either_fits (address b o) (integer l t) c e h k = tt
 either_fits (address b o) (reading.truth f) c e h k = tt
 either_fits (address b o) (variable x) c e h k = tt
 either_fits (address b o) (elements b' o' n i j) c e h k = tt
+either_fits (address b o) (region cells b' i j) c e h k = tt
 either_fits (address b o) nothing c e h k = tt
 either_fits (variable x) y c e h k = tt
 either_fits (elements b o n i j) y c e h k = tt
+either_fits (region cells b i j) y c e h k = tt
 either_fits nothing y c e h k = tt

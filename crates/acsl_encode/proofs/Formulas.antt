@@ -25,6 +25,7 @@ formulas_mean q names r ds env w t u good calls stands =
     record {
       formula = λ f e. sym (there (IsTruth q r.common env v) (as_formula (terms_of r t)) f (as_truth q r.common env (terms_of r t) v means) e);
       number = λ n e. sym (ap number_of (there (IsNumber q r.common env v) (as_integer (terms_of r t)) n (as_number q r.common env (terms_of r t) v means) e));
+      region = λ cells b low high e. subst (λ x. Means q r.common env x v) e means;
       pointer = λ p e. (there (IsPointer q r.common env v) (as_pointer (terms_of r t)) p (as_address q r.common env (terms_of r t) v means) e).0;
     }
   where

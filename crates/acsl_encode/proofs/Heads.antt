@@ -18,7 +18,8 @@ use Rattle.acsl_truth.specs.States.{Value, State, World, number_of, block_of, of
 use Rattle.qed_terms.specs.Tree.{Tree as Term, ite}
 use Rattle.qed_terms.specs.Meaning.{Values, World as Logic}
 use Rattle.acsl_encode.specs.Readings as reading
-use Rattle.acsl_encode.specs.Readings.{Pointer, at, Terms, integer, address, variable, elements, nothing, Slot, whole, pointer, home, absent, Seen, Reading}
+use Rattle.acsl_encode.specs.Readings.{Pointer, at, Terms, integer, address, variable, elements, region, nothing, Slot, whole, pointer, home, absent, Seen}
+use Rattle.acsl_encode.specs.Readings.{Reading}
 use Rattle.acsl_encode.specs.Readings.{seen_at, seen_in}
 use Rattle.acsl_encode.specs.Encode as encode
 use Rattle.acsl_encode.specs.Encode.{comparison, pointer_comparison, wrapped, truth_term, op_of, op_two, load, as_integer, as_pointer, as_formula, unbounded}
@@ -85,14 +86,17 @@ module _ (q : Logic) (r : Reading) (env : Values) where
   read_means (content.Integer k) s st (integer l t) v e stands h = tt
   read_means (content.Integer k) s st (reading.truth f) v e stands h = tt
   read_means (content.Integer k) s st (elements b o n i j) v e stands h = tt
+  read_means (content.Integer k) s st (region cells b i j) v e stands h = tt
   read_means (content.Integer k) s st nothing v e stands h = tt
   read_means content.Pointer s st (integer l t) v e stands h = tt
   read_means content.Pointer s st (reading.truth f) v e stands h = tt
   read_means content.Pointer s st (elements b o n i j) v e stands h = tt
+  read_means content.Pointer s st (region cells b i j) v e stands h = tt
   read_means content.Pointer s st nothing v e stands h = tt
   read_means (content.Struct m) s st (integer l t) v e stands h = tt
   read_means (content.Struct m) s st (reading.truth f) v e stands h = tt
   read_means (content.Struct m) s st (elements b o n i j) v e stands h = tt
+  read_means (content.Struct m) s st (region cells b i j) v e stands h = tt
   read_means (content.Struct m) s st nothing v e stands h = tt
 
   pub at_label : (l : Label) (w : World) → Stands q r env w → SeenStands q r.common env (seen_at l r) (state_at l w)
@@ -145,6 +149,7 @@ module _ (q : Logic) (r : Reading) (env : Values) where
     converted_means k (address b o) v h = tt
     converted_means k (variable x) v h = tt
     converted_means k (elements b o n i j) v h = tt
+    converted_means k (region cells b i j) v h = tt
     converted_means k nothing v h = tt
 
   -- ---- choices
@@ -173,16 +178,20 @@ module _ (q : Logic) (r : Reading) (env : Values) where
   either_means (reading.truth f) (address b o) c u v w e h k = tt
   either_means (reading.truth f) (variable x) c u v w e h k = tt
   either_means (reading.truth f) (elements b o n i j) c u v w e h k = tt
+  either_means (reading.truth f) (region cells b i j) c u v w e h k = tt
   either_means (reading.truth f) nothing c u v w e h k = tt
   either_means (integer l t) (address b o) c u v w e h k = tt
   either_means (integer l t) (variable x) c u v w e h k = tt
   either_means (integer l t) (elements b o n i j) c u v w e h k = tt
+  either_means (integer l t) (region cells b i j) c u v w e h k = tt
   either_means (integer l t) nothing c u v w e h k = tt
   either_means (address b o) (integer l t) c u v w e h k = tt
   either_means (address b o) (reading.truth f) c u v w e h k = tt
   either_means (address b o) (variable x) c u v w e h k = tt
   either_means (address b o) (elements b' o' n i j) c u v w e h k = tt
+  either_means (address b o) (region cells b' i j) c u v w e h k = tt
   either_means (address b o) nothing c u v w e h k = tt
   either_means (variable x) y c u v w e h k = tt
   either_means (elements b o n i j) y c u v w e h k = tt
+  either_means (region cells b i j) y c u v w e h k = tt
   either_means nothing y c u v w e h k = tt

@@ -22,3 +22,5 @@ pub mod Settings
 pub mod Cells
 pub mod Examples
 pub mod Told
+pub mod Stretches
+pub mod Regions

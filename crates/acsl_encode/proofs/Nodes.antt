@@ -186,7 +186,7 @@ module _ (q : Logic) (r : Reading) (env : Values) where
   abbrev pub AllAre : Bool → List Term → Type 0
   AllAre b fs = b ≡ each_true (map F fs)
 
-  both_hold : (b c : Bool) (o : Option Term) (os : Option (List Term)) → Holds (λ f. b ≡ F f) o → Holds (AllAre c) os → Holds (AllAre (b && c))
+  pub both_hold : (b c : Bool) (o : Option Term) (os : Option (List Term)) → Holds (λ f. b ≡ F f) o → Holds (AllAre c) os → Holds (AllAre (b && c))
       (encode.both o os)
   both_hold b c (Some f) (Some fs) h k = λ i. h i && k i
   both_hold b c (Some f) None h k = tt

@@ -6,7 +6,7 @@ use Rattle.acsl_truth.specs.States.{Value, number_of, is_true}
 use Rattle.acsl_truth.specs.Truth.{value_at, last_of}
 use Rattle.qed_terms.specs.Tree.{Tree as Term}
 use Rattle.qed_terms.specs.Meaning.{Values, World as Logic}
-use Rattle.acsl_encode.specs.Readings.{Pointer, Terms, integer, truth, address, variable, elements, nothing, Common}
+use Rattle.acsl_encode.specs.Readings.{Pointer, Terms, integer, truth, address, variable, elements, region, nothing, Common}
 use Rattle.acsl_encode.specs.Encode as encode
 use Rattle.acsl_encode.specs.Encode.{as_integer, as_formula, as_pointer, with_one, with_two, terms_at}
 use Rattle.acsl_encode.specs.Meaning.{Holds, number_in, is_so_in, Means, HasAddress}
@@ -28,6 +28,7 @@ module _ (q : Logic) (r : Common) (env : Values) where
   as_number (address b o) v h = tt
   as_number (variable x) v h = tt
   as_number (elements b o n low high) v h = tt
+  as_number (region cells b i j) v h = tt
   as_number nothing v h = tt
 
   pub as_truth : (x : Terms) (v : Value) → Means q r env x v → Holds (IsTruth v) (as_formula x)
@@ -36,6 +37,7 @@ module _ (q : Logic) (r : Common) (env : Values) where
   as_truth (address b o) v h = tt
   as_truth (variable x) v h = tt
   as_truth (elements b o n low high) v h = tt
+  as_truth (region cells b i j) v h = tt
   as_truth nothing v h = tt
 
   pub as_address : (x : Terms) (v : Value) → Means q r env x v → Holds (IsPointer v) (as_pointer x)
@@ -44,6 +46,7 @@ module _ (q : Logic) (r : Common) (env : Values) where
   as_address (address b o) v h = h
   as_address (variable x) v h = tt
   as_address (elements b o n low high) v h = tt
+  as_address (region cells b i j) v h = tt
   as_address nothing v h = tt
 
   -- ---- operands that are all there

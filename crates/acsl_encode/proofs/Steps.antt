@@ -8,17 +8,20 @@ use Rattle.acsl_trees.specs.declared.heads.Head.{Head}
 use Rattle.acsl_trees.specs.declared.heads.Head.TheVariants as hd
 use Rattle.acsl_trees.specs.Tree.{Tree, Trees, node, stop, more}
 use Rattle.acsl_truth.specs.States.{Value, World, number, number_of}
-use Rattle.acsl_truth.specs.Truth.{Calls, Env, last_of, heads_of, value, values}
+use Rattle.acsl_truth.specs.Truth.{value_at, Calls, Env, last_of, heads_of, value, values}
 use Rattle.acsl_truth.specs.Recursion.{is_own, is_plain, last_kid, is_one, is_one_less, goes_down, all_go_down}
 use Rattle.qed_terms.specs.Meaning.{Values, World as Logic}
-use Rattle.acsl_encode.specs.Readings.{Called, Terms, integer, truth, address, variable, elements, nothing, Common, Reading}
+use Rattle.acsl_encode.specs.Readings.{Called, Terms, integer, truth, address, variable, elements, region, nothing, Common, Reading}
 use Rattle.acsl_encode.specs.Encode as encode
 use Rattle.acsl_encode.specs.Encode.{terms_at, Names, encoded, all_encoded, binders}
 use Rattle.acsl_encode.specs.Meaning.{Means, Stands}
 use Rattle.acsl_encode.specs.Calls.{CallStands}
 use Rattle.acsl_encode.specs.WellFormed.{ReadingFits}
 use Rattle.acsl_encode.specs.Setting.{Known, with_called}
-use Rattle.acsl_encode.proofs.Operands.{AllMean}
+use Rattle.acsl_encode.proofs.Operands.{AllMean, kid_means}
+use Rattle.acsl_truth.specs.States as state
+use Rattle.acsl_encode.proofs.Annotated.{same_cells}
+use Rattle.acsl_encode.proofs.Regions.{region_means, separated_means}
 use Rattle.acsl_encode.proofs.Nodes.{applied_means, chain_means}
 use Rattle.acsl_encode.proofs.Fitted.{AllFit, NamesFit, trees_fit}
 use Rattle.acsl_encode.proofs.Calling.{Wanted, call_means, shared}
@@ -55,6 +58,7 @@ without_table q r env x writable ks (truth f) v = tt
 without_table q r env x writable ks (address b o) v = tt
 without_table q r env x writable ks (variable y) v = tt
 without_table q r env x writable ks (elements b o n i j) v = tt
+without_table q r env x writable ks (region cells b i j) v = tt
 without_table q r env x writable ks nothing v = tt
 
 -- ---- trees whose calls of function n go down
@@ -121,6 +125,12 @@ module _ (q : Logic) (m : Calls) (r : Reading) (known : Known) (n x : ℕ) (c : 
       subst (λ o. Means q r.common env (encode.valid (r.common.binder i) writable (encode.content_cells r.common k) o x)
       (meant (node (hd.Valid k writable) ks))) (sym no_table)
       (without_table q r.common env (r.common.binder i) writable (encode.content_cells r.common k) x (meant (node (hd.Valid k writable) ks)))
+  node_means hd.Separated i ks h plain goes = separated_means q r env (all_terms i ks) (all_meant ks) h
+  node_means (hd.Region k) i ks h plain goes =
+      subst (λ cells. Means q r.common env (terms i (node (hd.Region k) ks)) (state.region cells (state.span_of (value_at (all_meant ks) 0))))
+      (same_cells q m r.common w k stands.structs)
+      (region_means q r env (encode.content_cells r.common k) (terms_at (all_terms i ks) 0) (value_at (all_meant ks) 0)
+      (kid_means q r.common env (all_terms i ks) (all_meant ks) 0 h))
   node_means head i ks h plain goes = applied_means q r env (all_terms i ks) (all_meant ks) h w stands head
 
   mutual

@@ -12,9 +12,10 @@ use Rattle.qed_terms.specs.Free.{is_free}
 use Rattle.qed_terms.specs.Meaning as meant
 use Rattle.qed_terms.specs.Meaning.{Values, World as Logic, Whole, Cells, Blocks, value_of, meaning, whole, is_so}
 use Rattle.qed_terms.proofs.FreeNames.{meaning_of_free_names}
-use Rattle.acsl_encode.specs.Readings.{Terms, integer, truth, address, variable, elements, nothing, Slot, pointer, home, absent, Seen, Common, Reading}
+use Rattle.acsl_encode.specs.Readings.{Terms, integer, truth, address, variable, elements, region, nothing, Slot, pointer, home, absent, Seen, Common, Reading}
 use Rattle.acsl_encode.specs.Readings as reading
-use Rattle.acsl_encode.specs.Meaning.{Holds, number_in, Means, IsOfKind, HasAddress, SlotStands, SeenStands, Stands, NumbersHeld, PointersHeld, memory_in}
+use Rattle.acsl_encode.specs.Meaning.{Holds, number_in, Means, IsOfKind, HasAddress, IsStretch, SlotStands, SeenStands, Stands, NumbersHeld, PointersHeld}
+use Rattle.acsl_encode.specs.Meaning.{memory_in}
 use Rattle.acsl_encode.specs.Binders.{Binders, Spelled, numbered, IsUnmarked, Later, mark}
 use Rattle.acsl_encode.specs.Laws.{TermsUnmarked, SlotUnmarked, SeenUnmarked, IsUnbound}
 use Rattle.acsl_encode.proofs.Naming.{has_mark}
@@ -48,6 +49,11 @@ module _ (q : Logic) (names : Spelled) (b : Binders) (is : (n : ℕ) → b n ≡
     terms_stand (elements b o n low high) v u h =
         let p = number_same b u.0 in let e = number_same o u.1 in let a = number_same low u.2 in let z = number_same high u.3 in
         h ∙ (λ i. state.addresses (record { block = p i; offset = e i; size = pos n; low = a i; high = z i }))
+    terms_stand (region cells b low high) v u h =
+        let p = number_same b u.0 in let a = number_same low u.1 in let z = number_same high u.2 in
+        subst (λ k. IsStretch cells k (number_in q env' low) (number_in q env' high) v) p
+        (subst (λ k. IsStretch cells (number_in q env b) k (number_in q env' high) v) a
+        (subst (λ k. IsStretch cells (number_in q env b) (number_in q env low) k v) z h))
     terms_stand nothing v u h = tt
 
     slot_stands : (x : Variable) (s : Slot) (st : State) → SlotUnmarked s → SlotStands q r env x s st → SlotStands q r env' x s st

@@ -32,7 +32,7 @@ use Rattle.qed_terms.specs.declared.head.TermOp.TheVariants as op
 use Rattle.qed_terms.specs.Tree as tree
 use Rattle.qed_terms.specs.Tree.{Tree as Term, num, var, true_tree, at_most, less, equal, ite, not_of, and_of, or_of, imp_of}
 use Rattle.acsl_encode.specs.Readings.{Pointer, at, Named, one, two, Global, integer_global, pointer_global, Called, Terms, integer, truth, address, variable}
-use Rattle.acsl_encode.specs.Readings.{nothing, Slot, whole, pointer, home, absent, Seen, Reading, moved_to, seen_in, elements, Common}
+use Rattle.acsl_encode.specs.Readings.{nothing, Slot, whole, pointer, home, absent, Seen, Reading, moved_to, seen_in, elements, region, Common}
 
 -- ---- terms and formulas
 
@@ -377,6 +377,36 @@ valid x writable ks table (elements b o size low high) =
     (all_of (good_cells writable t b (element_at o size (var x)) ks 0)))) table
 valid x writable ks table _ = nothing
 
+-- ---- regions
+
+-- an object, and the elements of a range
+abbrev pub region_of : List CellKind → Terms → Terms
+region_of ks (address b o) = region ks b o (further (length ks) o)
+region_of ks (elements b o size low high) =
+    if size == length ks then region ks b (element_at o size low) (element_at o size (one_more high)) else nothing
+region_of ks _ = nothing
+
+abbrev pub apart_by : (block low high : Term) → (block' low' high' : Term) → Term
+apart_by b low high b' low' high' =
+    or_of (not_of (equal b b') ∷ at_most high low' ∷ at_most high' low ∷ at_most high low ∷ at_most high' low' ∷ [])
+
+abbrev pub apart_from : (block low high : Term) → Terms → Option Term
+apart_from b low high (region cells b' low' high') = Some (apart_by b low high b' low' high')
+apart_from b low high _ = None
+
+abbrev pub apart : Terms → Terms → Option Term
+apart (region cells b low high) y = apart_from b low high y
+apart _ y = None
+
+abbrev pub apart_all : Terms → List Terms → Option (List Term)
+apart_all x [] = Some []
+apart_all x (y ∷ ys) = both (apart x y) (apart_all x ys)
+
+-- each two of them
+abbrev pub pairs_apart : List Terms → Option (List Term)
+pairs_apart [] = Some []
+pairs_apart (x ∷ xs) = put (apart_all x xs) (pairs_apart xs)
+
 abbrev pub is_range : List Head → Bool
 is_range (h.Elements size count ∷ ls) = true
 is_range (h.Behind size ∷ ls) = true
@@ -426,6 +456,8 @@ node_terms r ns i d (h.Some g) ls kids =
 node_terms r ns i d h.Chain ls kids = with_one (λ fs. truth (all_of fs)) (in_chain ls (kids r ns i d))
 node_terms r ns i d (h.Valid c writable) ls kids =
     valid (r.common.binder i) writable (content_cells r.common c) r.here.table (first (kids r ns (i + own_binders (h.Valid c writable) ls) d))
+node_terms r ns i d h.Separated ls kids = with_one (λ fs. truth (all_of fs)) (pairs_apart (kids r ns i d))
+node_terms r ns i d (h.Region c) ls kids = region_of (content_cells r.common c) (first (kids r ns i d))
 node_terms r ns i d head ls kids = applied r head (kids r ns i d)
 
 abbrev mutual

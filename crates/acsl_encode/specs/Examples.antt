@@ -18,7 +18,7 @@ use Rattle.qed_terms.specs.declared.head.TermOp.TheVariants as op
 use Rattle.qed_terms.specs.declared.head.FormOp.{FormOp}
 use Rattle.qed_terms.specs.declared.head.FormOp.TheVariants as form
 use Rattle.qed_terms.specs.Tree as tree
-use Rattle.qed_terms.specs.Tree.{Tree as Term, num, var, at_most, less, equal, ite, not_of, and_of, imp_of}
+use Rattle.qed_terms.specs.Tree.{Tree as Term, num, var, at_most, less, equal, ite, not_of, and_of, imp_of, or_of}
 use Rattle.acsl_encode.specs.Readings as reading
 use Rattle.acsl_encode.specs.Readings.{Slot, at, Seen, Reading}
 use Rattle.acsl_encode.specs.Encode.{op_one, op_two, term_of, formula_of}
@@ -159,6 +159,12 @@ pub record Pointers : Type 0 where
       ∷ tree.node (th.Forall (codes "k!2")) (tree.three (num (pos 0)) (op_two op.Add x_term (num (pos 1))) (and_of (
       cell_of (form.Read (cell.Of kind.Int)) (op_two op.Add p_offset (op_two op.Mul (num (pos 2)) k_two))
       ∷ cell_of (form.Read cell.Ptr) (op_two op.Add (op_two op.Add p_offset (op_two op.Mul (num (pos 2)) k_two)) (num (pos 1))) ∷ []))) ∷ []))
+  pub separated : IsFormula (two h.Separated (one (h.Region (content.Integer kind.Int)) (one h.Pointed p_read))
+      (one (h.Region (content.Integer kind.Int)) (three (h.Behind 1) p_read (spelled 1) x_read)))
+      (or_of (not_of (equal p_block p_block) ∷ at_most (op_two op.Add p_offset (num (pos 1))) (op_two op.Add p_offset (num (pos 1)))
+      ∷ at_most (op_two op.Add p_offset (op_two op.Add x_term (num (pos 1)))) p_offset
+      ∷ at_most (op_two op.Add p_offset (num (pos 1))) p_offset
+      ∷ at_most (op_two op.Add p_offset (op_two op.Add x_term (num (pos 1)))) (op_two op.Add p_offset (num (pos 1))) ∷ []))
   pub call : IsTerm (one (h.Call 0) x_read)
       (tree.node (th.App (codes "f")) (tree.trees_of (x_term ∷ memory_var (codes "M:int") ∷ memory_var (codes "M:ptrb") ∷ memory_var (codes "M:ptro") ∷ [])))
 

@@ -1,6 +1,7 @@
 -- Formulas of annotations mean the annotations (ACSL 2.2, 2.4.3).
 use Rattle.std.specs.Prelude.{◌≡◌, ℕ, List, [], Some}
 use Rattle.wp_base.specs.declared.kinds.Kind.{Kind}
+use Rattle.wp_base.specs.declared.kinds.CellKind.{CellKind}
 use Rattle.typed_prog.specs.declared.operators.Variable.{Variable}
 use Rattle.acsl_trees.specs.Tree.{Tree}
 use Rattle.acsl_expand.specs.Expansion.{Definition}
@@ -9,9 +10,10 @@ use Rattle.acsl_truth.specs.States.{Value, World, number_of}
 use Rattle.acsl_truth.specs.Truth.{calls_of, named, holds, value}
 use Rattle.qed_terms.specs.Tree.{Tree as Term}
 use Rattle.qed_terms.specs.Meaning.{Values, World as Logic}
-use Rattle.acsl_encode.specs.Readings.{Terms, integer, truth, address, variable, elements, nothing, Pointer, Slot, whole, pointer, home, absent, Seen, Reading}
-use Rattle.acsl_encode.specs.Encode.{term_of, formula_of, pointer_of}
-use Rattle.acsl_encode.specs.Meaning.{Holds, number_in, is_so_in, Stands}
+use Rattle.acsl_encode.specs.Readings.{Terms, integer, truth, address, variable, elements, region, nothing, Pointer, Slot, whole, pointer, home, absent, Seen}
+use Rattle.acsl_encode.specs.Readings.{Reading}
+use Rattle.acsl_encode.specs.Encode.{terms_of, term_of, formula_of, pointer_of}
+use Rattle.acsl_encode.specs.Meaning.{Holds, number_in, is_so_in, IsStretch, Stands}
 use Rattle.acsl_encode.specs.WellFormed.{ReadingFits}
 use Rattle.acsl_encode.specs.Calls.{CallsStand}
 use Rattle.acsl_encode.specs.Binders.{Spelled, numbered, AllLack, IsUnmarked}
@@ -24,6 +26,7 @@ TermsUnmarked (truth f) = IsUnmarked f
 TermsUnmarked (address b o) = IsUnmarked b × IsUnmarked o
 TermsUnmarked (variable x) = Unit {0}
 TermsUnmarked (elements b o n low high) = IsUnmarked b × IsUnmarked o × IsUnmarked low × IsUnmarked high
+TermsUnmarked (region cells b low high) = IsUnmarked b × IsUnmarked low × IsUnmarked high
 TermsUnmarked nothing = Unit {0}
 
 abbrev pub SlotUnmarked : Slot → Type 0
@@ -50,13 +53,15 @@ pub record IsUnbound (names : Spelled) (r : Reading) : Type 0 where
 
 -- ---- the laws
 
--- A formula is true exactly where the annotation holds, and a term means what the annotation's term does, where the reading stands for the states, its
--- terms are well formed, and logic functions have the values of their definitions.
+-- Where the reading stands for the states, its terms are well formed, and logic functions have the values of their definitions: a formula is true exactly
+-- where the annotation holds, a term means what the annotation's term does, and a region has the cells of the annotation's.
 pub record MeansTheSame (q : Logic) (r : Reading) (ds : List Definition) (env : Values) (w : World) (t : Tree) : Type 0 where
   pub formula : (f : Term) → formula_of r t ≡ Some f → is_so_in q env f ≡ holds ds w t
   pub number : (u : Term) → term_of r t ≡ Some u → number_in q env u ≡ number_of (value (calls_of ds) (named []) 0 w t)
   pub pointer : (p : Pointer) → pointer_of r t ≡ Some p
       → value (calls_of ds) (named []) 0 w t ≡ state.pointer (number_in q env p.block) (number_in q env p.offset)
+  pub region : (cells : List CellKind) (b low high : Term) → terms_of r t ≡ region cells b low high
+      → IsStretch cells (number_in q env b) (number_in q env low) (number_in q env high) (value (calls_of ds) (named []) 0 w t)
 
 abbrev pub FormulasMean : Type 0
 FormulasMean =

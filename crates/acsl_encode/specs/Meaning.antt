@@ -1,7 +1,9 @@
 -- What terms stand for under values of their names, and a reading of labelled states.
-use Rattle.std.specs.Prelude.{◌≡◌, ℕ, ℤ, pos, Bool, true, false, Option, Some, None}
+use Rattle.std.specs.Prelude.{◌≡◌, ℕ, ℤ, pos, Bool, true, false, Option, Some, None, ◌&&◌, int_le, int_lt, ◌≤ℤ◌, ◌<ℤ◌, List}
 use Rattle.wp_base.specs.declared.kinds.Kind.{Kind}
 use Rattle.wp_base.specs.declared.kinds.CellKind.TheVariants as cell
+use Rattle.wp_base.specs.declared.kinds.CellKind.{CellKind}
+use Rattle.qed_terms.specs.Operators.{is_equal}
 use Rattle.c_kinds.specs.declared.models.Machdep.{Machdep}
 use Rattle.c_kinds.specs.Models.{holds, long_bits}
 use Rattle.typed_prog.specs.declared.operators.Variable.{Variable}
@@ -13,7 +15,8 @@ use Rattle.qed_terms.specs.Tree.{Tree as Term}
 use Rattle.qed_terms.specs.Memory.{Memory, load}
 use Rattle.qed_terms.specs.Meaning as meant
 use Rattle.qed_terms.specs.Meaning.{Values, World as Logic, meaning}
-use Rattle.acsl_encode.specs.Readings.{Terms, integer, truth, address, variable, elements, nothing, Slot, whole, pointer, home, absent, Seen, Common, Reading}
+use Rattle.acsl_encode.specs.Readings.{Terms, integer, truth, address, variable, elements, region, nothing, Slot, whole, pointer, home, absent, Seen, Common}
+use Rattle.acsl_encode.specs.Readings.{Reading}
 
 -- of what is there
 abbrev pub Holds : {X : Type 0} → (X → Type 0) → Option X → Type 0
@@ -38,6 +41,21 @@ IsOfKind m (Some k) z = holds m k z ≡ true
 abbrev pub HasAddress : (block : ℤ) → Type 0
 HasAddress b = is_negative b ≡ false
 
+-- from an offset up to below another one, of a block
+abbrev pub is_inside : (block low high : ℤ) → (b o : ℤ) → Bool
+is_inside block low high b o = is_equal block b && (int_le low o && int_lt o high)
+
+-- no cell of these is in the region
+abbrev pub Avoids : Value → (block low high : ℤ) → Type 0
+Avoids w block low high = (o : ℤ) → low ≤ℤ o → o <ℤ high → state.covers w block o ≡ false
+
+-- the region has these cells of a block, and no others; it is apart from another one that has none of them
+pub record IsStretch (cells : List CellKind) (block low high : ℤ) (v : Value) : Type 0 where
+  pub kinds : state.cells_of v ≡ cells
+  pub covered : (b o : ℤ) → state.covers v b o ≡ is_inside block low high b o
+  pub avoids : (w : Value) → state.are_apart v w ≡ true → Avoids w block low high
+  pub apart : (w : Value) → Avoids w block low high → state.are_apart v w ≡ true
+
 -- the terms stand for this value; nothing is said of what isn't in order
 abbrev pub Means : Logic → Common → Values → Terms → Value → Type 0
 Means q r env (integer k t) v = (v ≡ state.number (number_in q env t)) × IsOfKind r.model k (number_in q env t)
@@ -52,6 +70,7 @@ Means q r env (elements b o size low high) v =
       low = number_in q env low;
       high = number_in q env high;
     })
+Means q r env (region cells b low high) v = IsStretch cells (number_in q env b) (number_in q env low) (number_in q env high) v
 Means q r env nothing v = Unit {0}
 
 -- ---- states

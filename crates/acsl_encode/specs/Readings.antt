@@ -11,14 +11,15 @@ use Rattle.qed_terms.specs.Tree.{Tree as Term}
 -- ---- values
 
 -- An integer of a kind of C, or of type `integer`; a truth, which is 1 or 0; a pointer, which is the address of an object too; the address of a variable
--- that no pointer leads to; and addresses behind a pointer, over elements of so many cells, from one number to another one. Nothing stands for what isn't in
--- order.
+-- that no pointer leads to; addresses behind a pointer, over elements of so many cells, from one number to another one; and cells of a block from an offset
+-- up to below another one, elements with these cells. Nothing stands for what isn't in order.
 pub data Terms : Type 0 where
   integer : (kind : Option Kind) (t : Term) → Terms
   truth : (f : Term) → Terms
   address : (block offset : Term) → Terms
   variable : (x : Variable) → Terms
   elements : (block offset : Term) (size : ℕ) (low high : Term) → Terms
+  region : (cells : List CellKind) (block low high : Term) → Terms
   nothing : Terms
 
 -- a pointer is its block and its offset; for the cells of pointers there is a memory of each

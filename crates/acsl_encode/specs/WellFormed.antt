@@ -6,7 +6,8 @@ use Rattle.acsl_trees.specs.Tree.{Tree}
 use Rattle.qed_terms.specs.Tree.{Tree as Term, var}
 use Rattle.qed_terms.specs.Names.{is_name}
 use Rattle.qed_terms.specs.WellFormed.{fits, int, mem, tab, formula, argument}
-use Rattle.acsl_encode.specs.Readings.{Called, Terms, integer, truth, address, variable, elements, nothing, Pointer, Slot, whole, pointer, home, absent, Seen}
+use Rattle.acsl_encode.specs.Readings.{Called, Terms, integer, truth, address, variable, elements, region, nothing, Pointer, Slot, whole, pointer, home}
+use Rattle.acsl_encode.specs.Readings.{absent, Seen}
 use Rattle.acsl_encode.specs.Readings.{Reading}
 use Rattle.acsl_encode.specs.Meaning.{Holds}
 use Rattle.acsl_encode.specs.Encode.{term_of, formula_of, pointer_of}
@@ -33,6 +34,7 @@ TermsFit (truth f) = IsFormula f
 TermsFit (address b o) = IsInt b × IsInt o
 TermsFit (variable x) = Unit {0}
 TermsFit (elements b o n low high) = IsInt b × IsInt o × IsInt low × IsInt high
+TermsFit (region cells b low high) = IsInt b × IsInt low × IsInt high
 TermsFit nothing = Unit {0}
 
 abbrev pub SlotFits : Slot → Type 0

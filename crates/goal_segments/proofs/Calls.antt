@@ -25,16 +25,16 @@ use Rattle.segments.specs.Segments as segment
 use Rattle.plain_states.specs.Slots.{State, Sizes, at, value_slot, world_in, core_in}
 use Rattle.plain_states.specs.Scopes.{IsClean, is_integer, entry_state, behind_state}
 use Rattle.plain_states.proofs.Entering.{arrives, comes_back}
-use Rattle.plain_runs.specs.Fitting.{Shape, sizes, Fit, AreOf, is_param, FitsFunction, FitsProgram}
+use Rattle.plain_runs.specs.Fitting.{IsGood, Shape, sizes, Fit, AreOf, is_param, FitsFunction, FitsProgram}
 use Rattle.plain_runs.specs.Kept.{AllBelow, may_change_global, IsScoped, KeptFile, Kept, IsResult, Returned, IsAt, Comes}
 use Rattle.plain_runs.specs.Laws.{shape, Keeps}
 use Rattle.plain_runs.proofs.Sets.{parts_below, below_both, callers_below, entry_below, entry_globals}
 use Rattle.plain_runs.proofs.Calls.{more_slots, entry_fits, entry_scoped, call_kept}
 use Rattle.plain_runs.proofs.Scopes.{on_bool}
-use Rattle.plain_runs.proofs.Whole.{clean_of}
+use Rattle.plain_runs.proofs.Cells.{clean_of}
 use Rattle.goal_segments.specs.Sets.{call_inside}
 use Rattle.goal_segments.specs.Segments as seg
-use Rattle.goal_segments.specs.Segments.{IsGood, BehindCall, no_deeper, Seg, AllSeg, FunctionSeg}
+use Rattle.goal_segments.specs.Segments.{BehindCall, no_deeper, Seg, AllSeg, FunctionSeg}
 use Rattle.goal_segments.specs.Laws.{NoneFails}
 use Rattle.goal_segments.proofs.Including.{Agrees, call_agrees}
 use Rattle.goal_segments.proofs.Heads.{same_blocks, good_state, local_same, all_allow}
@@ -102,10 +102,10 @@ module _ (q : Program Steps) (fits : FitsProgram q) (m : Memory) (good : IsGood 
       → Called q s m k g zs here f st (gives v (behind_call (world_in (sizes q.facts s) m n vs st) u))
   back n n' vs vs' v after u same file result none promised =
       let behind : behind_call (world_in (sizes q.facts s) m n vs st) u ≡ world_in (sizes q.facts s) m n' vs' (behind_state (sizes q.facts s).globals after st) =
-      ap (λ x. behind_call (world_in (sizes q.facts s) m n vs st) x) same
-      ∙ ap (eval_world (world_in (sizes q.facts s) m n vs st)) (comes_back (sizes q.facts callee) (sizes q.facts s) refl m clean n n' vs vs' v st after) in
+          ap (λ x. behind_call (world_in (sizes q.facts s) m n vs st) x) same
+          ∙ ap (eval_world (world_in (sizes q.facts s) m n vs st)) (comes_back (sizes q.facts callee) (sizes q.facts s) refl m clean n n' vs vs' v st after) in
       let kept = call_kept q.facts s callee st fit zs g.params args (fits.functions k g e).params f scoped here.granted there.granted
-      (entry_globals q.facts k (map number zs) mem g.contract here.granted) after file (λ x. false) (λ n. false) in
+              (entry_globals q.facts k (map number zs) mem g.contract here.granted) after file (λ x. false) (λ n. false) in
       is_back n' vs' (behind_state (sizes q.facts s).globals after st) behind result kept
       (record {
         good = good_state q.facts fits.globals m good s (behind_state (sizes q.facts s).globals after st) kept.fit;
@@ -116,18 +116,16 @@ module _ (q : Program Steps) (fits : FitsProgram q) (m : Memory) (good : IsGood 
         result = result_of g.result v result none;
         promises = sym (ap (λ (w : World). ensured q.facts alone w.memory v g.contract) behind) ∙ promised;
       }) where
-        kept_there : Kept q.facts s there.granted (λ x. false) (λ n. false) f st (behind_state (sizes q.facts s).globals after st)
-        kept_there = call_kept q.facts s callee st fit zs g.params args (fits.functions k g e).params f scoped there.granted there.granted (λ x h. h) after file (λ x. false) (λ n. false)
-
-        some_first : (ps hs : List Granted) (x : ℕ) → may_change_global ps x ≡ false → may_change_global (ps ++ hs) x ≡ false
-        some_first [] hs x h = absurd (false≢true (sym h))
-        some_first (p ∷ ps) hs x h = on_bool (is_named p.regions (negsuc x))
-            (λ t. ap (λ b. b && may_change_global (ps ++ hs) x) t ∙ some_first ps hs x (sym (ap (λ b. b && may_change_global ps x) t) ∙ h))
-            (λ t. ap (λ b. b && may_change_global (ps ++ hs) x) t)
-
-        changed_by : (x : ℕ) → x < (sizes q.facts s).globals → may_change_global (granted_in q.facts (at_entry q.facts (map number zs) mem) (count m.blocks) (parts_of g.contract)) x ≡ false
-            → at (behind_state (sizes q.facts s).globals after st) (value_slot x) ≡ at st (value_slot x)
-        changed_by x l h = kept_there.globals x l (some_first (granted_in q.facts (at_entry q.facts (map number zs) mem) (count m.blocks) (parts_of g.contract)) (map of_caller here.granted) x h)
+    kept_there : Kept q.facts s there.granted (λ x. false) (λ n. false) f st (behind_state (sizes q.facts s).globals after st)
+    kept_there = call_kept q.facts s callee st fit zs g.params args (fits.functions k g e).params f scoped there.granted there.granted (λ x h. h) after file (λ x. false) (λ n. false)
+    some_first : (ps hs : List Granted) (x : ℕ) → may_change_global ps x ≡ false → may_change_global (ps ++ hs) x ≡ false
+    some_first [] hs x h = absurd (false≢true (sym h))
+    some_first (p ∷ ps) hs x h = on_bool (is_named p.regions (negsuc x))
+        (λ t. ap (λ b. b && may_change_global (ps ++ hs) x) t ∙ some_first ps hs x (sym (ap (λ b. b && may_change_global ps x) t) ∙ h))
+        (λ t. ap (λ b. b && may_change_global (ps ++ hs) x) t)
+    changed_by : (x : ℕ) → x < (sizes q.facts s).globals → may_change_global (granted_in q.facts (at_entry q.facts (map number zs) mem) (count m.blocks) (parts_of g.contract)) x ≡ false
+        → at (behind_state (sizes q.facts s).globals after st) (value_slot x) ≡ at st (value_slot x)
+    changed_by x l h = kept_there.globals x l (some_first (granted_in q.facts (at_entry q.facts (map number zs) mem) (count m.blocks) (parts_of g.contract)) (map of_caller here.granted) x h)
 
   -- ---- the body, of which no segment run goes wrong
 
@@ -190,23 +188,18 @@ module _ (q : Program Steps) (fits : FitsProgram q) (m : Memory) (good : IsGood 
         (deep.body k g e among there alone.granted inside_agrees (below_both 0 own [] own_below tt) all_below n vs first begins.0 begins.1))
         (subst (λ c. Comes q.facts callee m (KeptFile q.facts callee there.granted first) (λ v after. Returned q.facts callee there.granted v first after) (deeper (run.body g) there c)) (sym way)
         (keeps.body k g e there all_below n vs first begins.0 begins.1)) where
-          own : List Granted
-          own = granted_in q.facts (at_entry q.facts (map number zs) mem) (count m.blocks) (parts_of g.contract)
-
-          enough : length zs ≤ length g.variables
-          enough = let a = args.0 in let b = (fits.functions k g e).params in omega (arith, a, b)
-
-          begins : Fit q.facts callee first × IsScoped q.facts callee (is_param g.params) first
-          begins = (entry_fits q.facts s callee st fit zs g.params args (fits.functions k g e).params, entry_scoped q.facts s callee st fit zs g.params args (fits.functions k g e).params)
-
-          own_below : AllBelow 0 own
-          own_below = parts_below q.facts (at_entry q.facts (map number zs) mem) (count m.blocks) (parts_of g.contract)
-
-          all_below : AllBelow 0 there.granted
-          all_below = entry_below q.facts k (map number zs) mem g.contract here.granted
-
-          inside_agrees : Agrees q.facts alone.granted there.granted
-          inside_agrees = call_agrees q.facts gs here.granted own agrees own_below inside
+      own : List Granted
+      own = granted_in q.facts (at_entry q.facts (map number zs) mem) (count m.blocks) (parts_of g.contract)
+      enough : length zs ≤ length g.variables
+      enough = let a = args.0 in let b = (fits.functions k g e).params in omega (arith, a, b)
+      begins : Fit q.facts callee first × IsScoped q.facts callee (is_param g.params) first
+      begins = (entry_fits q.facts s callee st fit zs g.params args (fits.functions k g e).params, entry_scoped q.facts s callee st fit zs g.params args (fits.functions k g e).params)
+      own_below : AllBelow 0 own
+      own_below = parts_below q.facts (at_entry q.facts (map number zs) mem) (count m.blocks) (parts_of g.contract)
+      all_below : AllBelow 0 there.granted
+      all_below = entry_below q.facts k (map number zs) mem g.contract here.granted
+      inside_agrees : Agrees q.facts alone.granted there.granted
+      inside_agrees = call_agrees q.facts gs here.granted own agrees own_below inside
 
   -- all that is asked behind the turn
   module _ (l : ℕ) (asked : required q.facts l (at_entry q.facts (map number zs) mem) g.contract ≡ None)

@@ -13,11 +13,11 @@ use Rattle.core_checks.specs.Run as run
 use Rattle.segments.specs.Segments.{by_exit, by_return, by_stop}
 use Rattle.plain_states.specs.Slots.{State, world_in, core_in}
 use Rattle.plain_states.specs.Scopes.{is_integer}
-use Rattle.plain_runs.specs.Fitting.{Shape, sizes, Fit, FitsStep, FitsProgram}
+use Rattle.plain_runs.specs.Fitting.{IsGood, Shape, sizes, Fit, FitsStep, FitsProgram}
 use Rattle.plain_runs.specs.Kept.{AllBelow, some_sets, some_temps, IsScoped, Kept, Returned, Comes}
 use Rattle.plain_runs.proofs.Keeping.{kept_then}
 use Rattle.goal_segments.specs.Sets.{own_loop, loop_inside}
-use Rattle.goal_segments.specs.Segments.{IsGood, AtHead, Seg, AllSeg, entry_fails, pass_ends, again_fails}
+use Rattle.goal_segments.specs.Segments.{AtHead, Seg, AllSeg, entry_fails, pass_ends, again_fails}
 use Rattle.goal_segments.specs.Laws.{all_among}
 use Rattle.goal_segments.proofs.Including.{Agrees, loop_agrees}
 use Rattle.goal_segments.proofs.Heads.{at_head}

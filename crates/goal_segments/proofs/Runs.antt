@@ -14,14 +14,13 @@ use Rattle.core_runs.specs.Run.{stopped, begun}
 use Rattle.core_checks.specs.Tree.{Steps}
 use Rattle.core_checks.specs.Run as run
 use Rattle.plain_states.specs.Slots.{State, world_in}
-use Rattle.plain_runs.specs.Fitting.{Shape, sizes, AreOf, is_param, FitsProgram}
+use Rattle.plain_runs.specs.Fitting.{IsGood, Shape, sizes, AreOf, is_param, FitsProgram}
 use Rattle.plain_runs.specs.Kept.{AllBelow}
 use Rattle.plain_runs.specs.Laws.{shape, Keeps}
-use Rattle.plain_runs.proofs.Whole.{clean_of, outer, start, start_fits, same_memory, first_world}
+use Rattle.plain_runs.proofs.Whole.{outer, start, start_fits, same_memory, first_world}
 use Rattle.plain_runs.proofs.Levels.{levels_keep}
 use Rattle.plain_runs.proofs.Statements.{all_done}
 use Rattle.goal_segments.specs.Sets.{own_loop, call_inside}
-use Rattle.goal_segments.specs.Segments.{IsGood}
 use Rattle.goal_segments.specs.Laws.{IsClosed, NoneFails, GoesWell, Modular}
 use Rattle.goal_segments.proofs.Including.{Agrees, agrees_same, loop_agrees, own_below}
 use Rattle.goal_segments.proofs.Following.{Follows, spends}
@@ -44,7 +43,7 @@ module _ (q : Program Steps) (fits : FitsProgram q) (m : Memory) (good : IsGood 
         head_follows q fits m good reached deeper deep s integers f low l ss h among here gs agrees below deep_below n₀ vs₀ st₀ fit₀ scoped₀ inside
         (λ n vs st fit scoped. all_follow q fits m good reached none_fails deeper keeps deep s integers f l.declared (in_loop q.facts here l w) (own_loop q.facts (record here { granted = gs }) l w).granted
         (loop_agrees q.facts low here gs l w h.0 agrees below inside) (own_below q.facts here gs l w low h.0 below) (loop_below q.facts here l w low h.0 deep_below) ss h.2 among n vs st fit scoped)
-        (λ n vs st fit scoped. all_done q fits m (clean_of q.facts m good.well) deeper keeps s integers f l.declared (in_loop q.facts here l w) (loop_below q.facts here l w low h.0 deep_below) ss h.2 n vs st fit scoped)
+        (λ n vs st fit scoped. all_done q fits m good deeper keeps s integers f l.declared (in_loop q.facts here l w) (loop_below q.facts here l w low h.0 deep_below) ss h.2 n vs st fit scoped)
         last n vs st kept way;
   }
 
@@ -60,7 +59,7 @@ module _ (q : Program Steps) (fits : FitsProgram q) (m : Memory) (good : IsGood 
   levels_follow : (n : ℕ) → Deep q fits m reached (run.levels q n)
   unfolding run.levels
   levels_follow zero = one_more (λ t here c. stopped (spent c.world)) none_below spent_below
-  levels_follow (suc n) = one_more (run.levels q n) (levels_keep q fits m (clean_of q.facts m good.well) n) (levels_follow n)
+  levels_follow (suc n) = one_more (run.levels q n) (levels_keep q fits m good n) (levels_follow n)
 
   -- ---- a call from outside
 
@@ -97,7 +96,7 @@ module _ (q : Program Steps) (fits : FitsProgram q) (m : Memory) (good : IsGood 
         (subst (λ t. GoesWell (unless t (turn_by turns (world_in (sizes q.facts outer) m turns contents first)
         (entered_by q.facts (λ f here w. run.returned f (run.levels q turns (run.body f) here (begun w))) g (here_in q.facts k (map number zs) memory g.contract []) (map number zs)))))
         (sym (not_lower (measure_of q.facts (at_entry q.facts (map number zs) memory) g.contract.decreases)))
-        (well_of _ (turn_called q fits m good reached none_fails (run.levels q turns) (levels_keep q fits m (clean_of q.facts m good.well) turns) (levels_follow turns) outer around [] (agrees_same q.facts [])
+        (well_of _ (turn_called q fits m good reached none_fails (run.levels q turns) (levels_keep q fits m good turns) (levels_follow turns) outer around [] (agrees_same q.facts [])
         (λ x. false) first (start_fits q.facts fits.globals m good.well) (λ x l h. absurd (omega (arith, l))) k g e among zs args 0 same_call refl turns contents))))
 
     runs_well : GoesWell (run.run_function q k (map number zs) m turns contents)

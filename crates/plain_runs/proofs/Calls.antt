@@ -1,31 +1,18 @@
 -- A call keeps the variables of the function that calls, and those of the file that the sets in force don't let change.
-use Rattle.std.proofs.Common.{◌≡◌, ℕ, zero, suc, ◌+◌, ◌-◌, ◌<◌, ◌≤◌, ℤ, pos, Bool, true, false, List, [], ◌∷◌, map, length, Option, Some, None, slice_get, refl, sym, ap, ◌∙◌, subst, inl, inr, arith}
+use Rattle.std.proofs.Common.{◌≡◌, ℕ, ◌+◌, ◌-◌, ◌<◌, ◌≤◌, ℤ, pos, Bool, true, false, List, length, Some, slice_get, sym, ap, ◌∙◌, subst, inl, inr, arith}
 use Rattle.std.specs.Prelude.{nat_lt}
-use Rattle.std.specs.List.{list_all}
 use Rattle.std.proofs.lemmas.Bool.{ltb-true, ltb-false}
-use Rattle.wp_base.specs.declared.kinds.CellKind.{CellKind}
-use Rattle.wp_base.specs.declared.kinds.CellKind.TheVariants as cell
 use Rattle.c_kinds.specs.Models.{holds}
-use Rattle.acsl_truth.specs.States.{Value, number}
-use Rattle.c_runs.specs.Program.{Variable, Facts, Function, Contract, Program}
-use Rattle.c_runs.specs.States.{Memory, World, Here, Granted}
-use Rattle.c_runs.specs.Values.{are}
-use Rattle.c_runs.specs.Claims.{Stop, here_in, required, decreased, measure_of, at_entry, entered_well, ensured}
-use Rattle.c_runs.specs.Scopes.{arrived}
-use Rattle.c_runs.specs.Calls.{Eval, gives, stops, nought, unless, turn, turn_by, back_in, keeps_promises, Runner, entered_by, called_by, found as found_by, called}
-use Rattle.c_runs.specs.Run as spelled
-use Rattle.core_runs.specs.Run.{CoreWorld, Ending, goes_on, exits, returns, stopped, begun}
-use Rattle.core_checks.specs.Tree.{Steps}
-use Rattle.core_checks.specs.Run as run
-use Rattle.plain_states.specs.Slots.{State, Sizes, sizes_of, double, at, value_slot, flag_slot, local_value, local_flag, temp_slot, world_in, core_in}
-use Rattle.plain_states.specs.Scopes.{IsClean, is_integer, kind_of, entry_state, behind_state}
+use Rattle.c_runs.specs.Program.{Variable, Facts}
+use Rattle.c_runs.specs.States.{Granted}
+use Rattle.plain_states.specs.Slots.{State, Sizes, double, at, value_slot, flag_slot, local_value, local_flag, temp_slot}
+use Rattle.plain_states.specs.Scopes.{kind_of, entry_state, behind_state}
 use Rattle.plain_states.proofs.Lists.{double_is, value_before, flag_before}
 use Rattle.plain_states.proofs.Scoping.{found_below}
 use Rattle.plain_states.proofs.Calling.{entry_length, entry_first, entry_behind, entry_argument, behind_first, behind_later, behind_length}
-use Rattle.plain_states.proofs.Entering.{found, arrives, comes_back}
-use Rattle.plain_runs.specs.Fitting.{Shape, sizes, IsFlag, Fit, AreOf, shape_of, is_param, FitsFunction, FitsProgram}
-use Rattle.plain_runs.specs.Kept.{AllBelow, may_change_global, IsScoped, KeptFile, Kept, IsResult, Returned, IsAt, Comes}
-use Rattle.plain_runs.proofs.Sets.{entry_below, entry_globals}
+use Rattle.plain_states.proofs.Entering.{found}
+use Rattle.plain_runs.specs.Fitting.{Shape, sizes, IsFlag, Fit, AreOf, is_param}
+use Rattle.plain_runs.specs.Kept.{may_change_global, IsScoped, KeptFile, Kept}
 use Rattle.plain_runs.proofs.Scopes.{on_bool, zero_of}
 
 -- the slots that a function has behind its arguments

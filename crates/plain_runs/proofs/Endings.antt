@@ -1,23 +1,22 @@
 -- How statements end, with what they keep.
-use Rattle.std.proofs.Common.{◌≡◌, ℕ, zero, suc, ◌+◌, ◌≤◌, ℤ, pos, Bool, true, false, ◌&&◌, if◌then◌else◌, List, [], ◌∷◌, length, Option, Some, None, refl, sym, ap, ◌∙◌, subst, arith}
+use Rattle.std.proofs.Common.{◌≡◌, ℕ, zero, suc, ℤ, Bool, true, false, ◌&&◌, if◌then◌else◌, List, [], ◌∷◌, Option, Some, None, refl, sym, ap, ◌∙◌, arith}
 use Rattle.std.specs.List.{list_all}
 use Rattle.acsl_truth.specs.States.{Value, number}
 use Rattle.c_runs.specs.Program.{Facts, Loop, Variable, Program}
-use Rattle.c_runs.specs.States.{Memory, World, Here, Granted}
+use Rattle.c_runs.specs.States.{Memory, Here, Granted}
 use Rattle.c_runs.specs.Operators.{Undefined}
-use Rattle.c_runs.specs.Claims.{Stop, spent, undefined, may_change_local, at_head, in_body, measure_of}
-use Rattle.c_runs.specs.Scopes.{left}
-use Rattle.core_runs.specs.Run.{CoreWorld, Ending, goes_on, exits, returns, stopped, then_do, in_world, unless, one_turn, scope_left, scope_end}
+use Rattle.c_runs.specs.Claims.{Stop, undefined, may_change_local, at_head, in_body, measure_of}
+use Rattle.core_runs.specs.Run.{CoreWorld, Ending, goes_on, exits, returns, stopped, then_do, unless, one_turn, scope_left, scope_end}
 use Rattle.rte_checks.specs.Checks.{Check}
 use Rattle.core_checks.specs.Tree.{Steps}
 use Rattle.core_checks.specs.Run as run
-use Rattle.plain_states.specs.Slots.{State, Sizes, temp_slot, result_slot, world_in, core_in, memory_in, temps_in}
+use Rattle.plain_states.specs.Slots.{State, world_in, core_in, memory_in}
 use Rattle.plain_states.specs.Scopes.{IsClean, AllBelow as NamesBelow, without_variables}
 use Rattle.plain_states.proofs.Calling.{leaves_scope}
 use Rattle.plain_runs.specs.Fitting.{Shape, sizes, Fit, with_names, Declares, with_name}
-use Rattle.plain_runs.specs.Kept.{may_change_global, AllBelow, IsScoped, KeptFile, Kept, Returned, IsAt, Comes}
+use Rattle.plain_runs.specs.Kept.{may_change_global, AllBelow, IsScoped, Kept, Returned, IsAt, Comes}
 use Rattle.plain_runs.proofs.Keeping.{kept_then, kept_more, file_then, file_more, comes_more, comes_then}
-use Rattle.plain_runs.proofs.Scopes.{Entered, Leaves, leaves, scope_kept, scope_returned}
+use Rattle.plain_runs.proofs.Scopes.{Entered, leaves, scope_kept, scope_returned}
 
 -- ---- checks before it
 

@@ -1,24 +1,22 @@
 -- A call, with all that is asked of it, in a program whose bodies keep what they have to at the level below.
-use Rattle.std.proofs.Common.{◌≡◌, ℕ, zero, suc, ◌+◌, ◌≤◌, ℤ, pos, Bool, true, false, List, [], ◌∷◌, map, length, Option, Some, None, refl, sym, ap, ◌∙◌, subst, arith}
-use Rattle.std.specs.List.{list_all}
+use Rattle.std.proofs.Common.{◌≡◌, ℕ, zero, suc, ◌≤◌, ℤ, Bool, false, List, [], map, length, Option, Some, None, refl, sym, ap, subst, arith}
 use Rattle.wp_base.specs.declared.kinds.CellKind.{CellKind}
 use Rattle.acsl_truth.specs.States.{Value, number}
-use Rattle.c_runs.specs.Program.{Variable, Facts, Function, Contract, Loop, Program}
+use Rattle.c_runs.specs.Program.{Facts, Function, Contract, Program}
 use Rattle.c_runs.specs.States.{Memory, World, Here}
-use Rattle.c_runs.specs.Values.{are}
 use Rattle.c_runs.specs.Claims.{Stop, here_in, required, decreased, measure_of, at_entry, entered_well, ensured}
-use Rattle.c_runs.specs.Scopes.{arrived}
-use Rattle.c_runs.specs.Calls.{Eval, gives, stops, nought, unless, turn, turn_by, back_in, keeps_promises, Runner, entered_by, called_by, found as found_by, called}
+use Rattle.c_runs.specs.Calls.{Eval, gives, stops, nought, unless, turn_by, back_in, keeps_promises, entered_by, found as found_by}
 use Rattle.c_runs.specs.Run as spelled
 use Rattle.core_runs.specs.Run.{CoreWorld, Ending, goes_on, exits, returns, stopped, begun}
 use Rattle.core_checks.specs.Tree.{Steps}
 use Rattle.core_checks.specs.Run as run
-use Rattle.plain_states.specs.Slots.{State, Sizes, sizes_of, world_in, core_in}
-use Rattle.plain_states.specs.Scopes.{IsClean, is_integer, entry_state, behind_state}
+use Rattle.plain_states.specs.Slots.{State, world_in, core_in}
+use Rattle.plain_states.specs.Scopes.{entry_state, behind_state}
 use Rattle.plain_states.proofs.Entering.{arrives, comes_back}
-use Rattle.plain_runs.specs.Fitting.{Shape, sizes, Fit, AreOf, shape_of, is_param, FitsSteps, FitsFunction, FitsProgram}
-use Rattle.plain_runs.specs.Kept.{AllBelow, may_change_global, some_sets, some_temps, IsScoped, KeptFile, Kept, IsResult, Returned, IsAt, Comes}
+use Rattle.plain_runs.specs.Fitting.{IsGood, Shape, sizes, Fit, AreOf, FitsProgram}
+use Rattle.plain_runs.specs.Kept.{IsScoped, KeptFile, Kept, IsResult, Returned, IsAt, Comes}
 use Rattle.plain_runs.specs.Laws.{shape, Keeps}
+use Rattle.plain_runs.proofs.Cells.{clean_of}
 use Rattle.plain_runs.proofs.Sets.{entry_below, entry_globals}
 use Rattle.plain_runs.proofs.Calls.{more_slots, entry_fits, entry_scoped, call_kept}
 
@@ -36,7 +34,7 @@ abbrev pub Given : (q : Program Steps) (s : Shape) (m : Memory) (result : Option
 Given q s m r here f st (gives v w) = CallAt q s m r here f st v w
 Given q s m r here f st (stops e) = Unit {0}
 
-module _ (q : Program Steps) (fits : FitsProgram q) (m : Memory) (clean : IsClean m) (deeper : run.Deeper) (keeps : Keeps q fits m deeper)
+module _ (q : Program Steps) (fits : FitsProgram q) (m : Memory) (good : IsGood q.facts m) (deeper : run.Deeper) (keeps : Keeps q fits m deeper)
     (s : Shape) (here : Here) (f : ℕ → Bool) (st : State) (fit : Fit q.facts s st) (scoped : IsScoped q.facts s f st) where
   unless_given : (r : Option CellKind) (o : Option Stop) (e : Eval) → Given q s m r here f st e → Given q s m r here f st (unless o e)
   unless_given r None e h = h
@@ -68,7 +66,7 @@ module _ (q : Program Steps) (fits : FitsProgram q) (m : Memory) (clean : IsClea
         → Given q s m r here f st (back_in (world_in (sizes q.facts s) m n vs st) (gives v u))
     back_given r v n n' vs vs' after u same file result =
         subst (λ x. Given q s m r here f st (back_in (world_in (sizes q.facts s) m n vs st) (gives v x))) (sym same)
-        (subst (Given q s m r here f st) (sym (comes_back (sizes q.facts callee) (sizes q.facts s) refl m clean n n' vs vs' v st after))
+        (subst (Given q s m r here f st) (sym (comes_back (sizes q.facts callee) (sizes q.facts s) refl m (clean_of q.facts m good.well) n n' vs vs' v st after))
         (record { turns = n'; contents = vs'; state = behind_state (sizes q.facts s).globals after st; same = refl; result = result; kept = kept_behind after file }))
 
     ended_given : (r : Option CellKind) (n : ℕ) (vs : List Value) (line : ℕ) (c : CoreWorld) → IsAt q.facts callee m (KeptFile q.facts callee there.granted first) c

@@ -1,15 +1,14 @@
 -- What is kept adds up, statement by statement.
-use Rattle.std.proofs.Common.{◌≡◌, ℕ, zero, suc, ◌+◌, ◌<◌, ℤ, pos, Bool, true, false, ◌||◌, List, [], ◌∷◌, Some, slice_get, refl, sym, ap, ◌∙◌, subst, arith}
+use Rattle.std.proofs.Common.{◌≡◌, ℕ, zero, suc, Bool, true, false, ◌||◌, List, refl, sym, ◌∙◌, subst, arith}
 use Rattle.std.proofs.lemmas.Bool.{false≢true}
-use Rattle.c_kinds.specs.Models.{holds}
 use Rattle.acsl_truth.specs.States.{Value}
-use Rattle.c_runs.specs.Program.{Facts, Variable}
+use Rattle.c_runs.specs.Program.{Facts}
 use Rattle.c_runs.specs.States.{Memory, Granted}
-use Rattle.c_runs.specs.Claims.{Stop, may_change_local}
+use Rattle.c_runs.specs.Claims.{may_change_local}
 use Rattle.core_runs.specs.Run.{CoreWorld, Ending, goes_on, exits, returns, stopped, then_do, block_end}
-use Rattle.plain_states.specs.Slots.{State, at, value_slot, flag_slot, local_value, local_flag, core_in}
+use Rattle.plain_states.specs.Slots.{State, core_in}
 use Rattle.plain_runs.specs.Fitting.{Shape, sizes, Fit}
-use Rattle.plain_runs.specs.Kept.{may_change_global, IsScoped, Unchanged, KeptFile, Kept, IsAt, Comes}
+use Rattle.plain_runs.specs.Kept.{may_change_global, IsScoped, Unchanged, KeptFile, Kept, Comes}
 
 -- ---- tests
 

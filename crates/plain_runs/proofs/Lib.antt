@@ -2,6 +2,7 @@ pub mod Sets
 pub mod Keeping
 pub mod Writes
 pub mod Scopes
+pub mod Cells
 pub mod Objects
 pub mod Calls
 pub mod Evals

@@ -1,5 +1,5 @@
 -- What a statement stores in a variable is kept so.
-use Rattle.std.proofs.Common.{◌≡◌, ℕ, ◌+◌, ◌<◌, ◌≤◌, ℤ, pos, negsuc, Bool, true, false, ◌&&◌, if◌then◌else◌, List, [], ◌∷◌, length, Option, Some, None, is_some, slice_get, zero, suc, refl, sym, ap, ◌∙◌, subst, arith}
+use Rattle.std.proofs.Common.{◌≡◌, ℕ, ◌+◌, ◌≤◌, ℤ, pos, negsuc, Bool, true, false, if◌then◌else◌, List, [], ◌∷◌, length, Option, Some, None, is_some, slice_get, zero, suc, refl, sym, ap, ◌∙◌, subst, arith}
 use Rattle.std.specs.Prelude.{◌==◌}
 use Rattle.std.specs.List.{list_all}
 use Rattle.std.proofs.lemmas.Bool.{false≢true, and_parts}
@@ -10,26 +10,25 @@ use Rattle.typed_prog.specs.declared.operators.Path.{Path}
 use Rattle.typed_prog.specs.declared.operators.Root.{Root}
 use Rattle.typed_prog.specs.declared.operators.Root.TheVariants as root
 use Rattle.typed_prog.specs.declared.operators.Variable.TheVariants as variable
-use Rattle.acsl_truth.specs.States.{Value, number, pointer, block_of, offset_of}
+use Rattle.acsl_truth.specs.States.{Value, number, pointer}
 use Rattle.c_runs.specs.Program.{Variable, Facts, Program}
 use Rattle.c_runs.specs.States.{Memory, World, Here, Local, plain, with_local, with_memory, stored_in, home_from, global_home}
 use Rattle.c_runs.specs.Objects.{plain_root, is_plain_in, cell_of, address, along, start}
 use Rattle.c_runs.specs.Claims.{may_change, may_change_local}
-use Rattle.c_runs.specs.Effects.{Written, wrote, unwritten, granted, cell_written, kind_there, wrote_act, initial_act, initial_by}
-use Rattle.core_runs.specs.Run.{CoreWorld, Ending, goes_on, stopped, in_world, with_eval}
+use Rattle.c_runs.specs.Effects.{granted, cell_written, kind_there, wrote_act, initial_act, initial_by}
+use Rattle.core_runs.specs.Run.{Ending, goes_on, in_world, with_eval}
 use Rattle.core_checks.specs.Tree.{Steps}
 use Rattle.core_checks.specs.Run as run
-use Rattle.plain_states.specs.Slots.{State, Sizes, sizes_of, with_variable, result_slot, world_in, core_in}
+use Rattle.plain_states.specs.Slots.{State, with_variable, result_slot, world_in, core_in}
 use Rattle.plain_states.specs.Scopes.{is_integer, are_one_integer, kind_of}
 use Rattle.plain_states.proofs.Puts.{changes_are_puts}
 use Rattle.plain_states.proofs.Entering.{when_true}
 use Rattle.plain_states.proofs.Scoping.{found_below, listed_integer}
 use Rattle.plain_runs.specs.Fitting.{Shape, sizes, Fit, LeadsTo, to_local, to_global, Takes}
-use Rattle.plain_runs.specs.Kept.{is_local, may_change_global, AllBelow, IsScoped, Kept, Returned, IsAt, Comes}
+use Rattle.plain_runs.specs.Kept.{is_local, may_change_global, AllBelow, IsScoped, Kept, Returned, Comes}
 use Rattle.plain_runs.proofs.Sets.{high_may}
 use Rattle.plain_runs.proofs.Keeping.{kept_more}
-use Rattle.plain_runs.proofs.Writes.{local_kept, global_kept, no_match}
-use Rattle.plain_runs.proofs.Scopes.{on_bool}
+use Rattle.plain_runs.proofs.Writes.{local_kept, global_kept}
 
 -- ---- variables of the file stand in blocks -1, -2, ..
 

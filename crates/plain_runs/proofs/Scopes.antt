@@ -1,11 +1,10 @@
 -- A scope that is entered and left keeps what isn't set in it.
-use Rattle.std.proofs.Common.{◌≡◌, ℕ, zero, suc, ◌+◌, ◌<◌, ◌≤◌, ℤ, pos, Bool, true, false, ◌||◌, if◌then◌else◌, List, [], ◌∷◌, length, Option, Some, None, is_some, slice_get, refl, sym, ap, ◌∙◌, subst, ◌⊎◌, inl, inr, arith}
+use Rattle.std.proofs.Common.{◌≡◌, ℕ, zero, suc, ◌+◌, ◌<◌, ◌≤◌, ℤ, pos, Bool, true, false, ◌||◌, if◌then◌else◌, List, [], ◌∷◌, length, Option, Some, None, is_some, slice_get, refl, sym, ap, ◌∙◌, subst, inl, inr, arith}
 use Rattle.std.specs.Prelude.{◌==◌}
 use Rattle.std.specs.List.{list_all}
 use Rattle.std.proofs.lemmas.Bool.{false≢true, and_parts}
 use Rattle.std.proofs.lemmas.Bool.Decides.{Decides-eqb}
 use Rattle.std.proofs.lemmas.Int.{ints}
-use Rattle.wp_base.specs.declared.kinds.CellKind.{CellKind}
 use Rattle.wp_base.specs.declared.kinds.CellKind.TheVariants as cell
 use Rattle.wp_base.specs.declared.kinds.Kind.{Kind}
 use Rattle.wp_base.specs.declared.kinds.Kind.TheVariants as kind
@@ -17,14 +16,14 @@ use Rattle.c_runs.specs.Program.{Facts, Variable}
 use Rattle.c_runs.specs.States.{Granted}
 use Rattle.c_runs.specs.Claims.{may_change_local}
 use Rattle.c_runs.specs.Scopes.{next_content, scalar_of}
-use Rattle.plain_states.specs.Slots.{State, Sizes, at, value_slot, flag_slot, local_value, local_flag, temp_slot, with_variable}
-use Rattle.plain_states.specs.Scopes.{is_integer, are_one_integer, kind_in, kind_of, first_value, first_flag, left_contents, made_state, made_contents, scope_state, without_variables}
+use Rattle.plain_states.specs.Slots.{State, at, value_slot, flag_slot, local_value, local_flag, temp_slot, with_variable}
+use Rattle.plain_states.specs.Scopes.{is_integer, are_one_integer, kind_of, first_value, first_flag, left_contents, made_state, made_contents, scope_state, without_variables}
 use Rattle.plain_states.proofs.Scoping.{found_below, listed_integer, cell_of_integer}
 use Rattle.plain_states.proofs.Calling.{some_same}
 use Rattle.plain_runs.specs.Fitting.{Shape, sizes, IsFlag, Fit, with_name, with_names, Declares}
-use Rattle.plain_runs.specs.Kept.{may_change_global, AllBelow, IsScoped, Unchanged, KeptFile, Kept, Returned}
+use Rattle.plain_runs.specs.Kept.{AllBelow, IsScoped, Unchanged, Kept, Returned}
 use Rattle.plain_runs.proofs.Keeping.{first_false, second_false}
-use Rattle.plain_runs.proofs.Writes.{same_or, no_match, variable_fits, other_variable, temps_stay, this_value, this_flag}
+use Rattle.plain_runs.proofs.Writes.{no_match, variable_fits, other_variable, temps_stay, this_value, this_flag}
 use Rattle.plain_runs.proofs.Sets.{high_may}
 
 -- ---- first values

@@ -1,8 +1,7 @@
 -- Sets in force: more of them let change no more, and what loops declare inside may change.
-use Rattle.std.proofs.Common.{◌≡◌, ℕ, ◌+◌, ◌<◌, ◌≤◌, ℤ, pos, negsuc, Bool, true, false, ◌&&◌, ◌||◌, if◌then◌else◌, List, [], ◌∷◌, ◌++◌, map, Option, Some, None, refl, sym, ap, ◌∙◌, arith}
-use Rattle.std.specs.Prelude.{nat_le}
+use Rattle.std.proofs.Common.{◌≡◌, ℕ, ◌≤◌, ℤ, pos, negsuc, Bool, true, false, ◌&&◌, ◌||◌, if◌then◌else◌, List, [], ◌∷◌, ◌++◌, map, Option, Some, None, refl, ap, ◌∙◌, arith}
 use Rattle.std.specs.List.{list_all}
-use Rattle.std.proofs.lemmas.Bool.{false≢true, le-leb}
+use Rattle.std.proofs.lemmas.Bool.{le-leb}
 use Rattle.wp_base.specs.declared.kinds.CellKind.TheVariants as cell
 use Rattle.wp_base.specs.Blocks.{count}
 use Rattle.acsl_trees.specs.Tree.{Tree}
@@ -10,7 +9,7 @@ use Rattle.acsl_truth.specs.States.{Value, World as Labelled}
 use Rattle.acsl_truth.specs.Allowed.{is_named}
 use Rattle.c_runs.specs.Program.{Facts, Loop, Contract, Behavior}
 use Rattle.c_runs.specs.States.{Memory, World, Here, Granted, hidden, seen}
-use Rattle.c_runs.specs.Claims.{may_change, may_change_local, lets_cell, lets_local, granted_by, granted_in, granted_at, of_caller, parts_of, in_body, in_loop, here_in, at_entry, is_assumed, regions_of}
+use Rattle.c_runs.specs.Claims.{may_change_local, lets_cell, lets_local, granted_by, granted_in, of_caller, parts_of, in_body, in_loop, here_in, at_entry, is_assumed}
 use Rattle.plain_runs.specs.Kept.{may_change_global, AllBelow}
 
 -- ---- all of two lists

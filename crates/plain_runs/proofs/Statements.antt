@@ -1,9 +1,8 @@
 -- Each statement keeps what it doesn't set, and what the sets in force don't let change.
-use Rattle.std.proofs.Common.{◌≡◌, ℕ, zero, suc, ◌+◌, ◌<◌, ◌≤◌, ℤ, pos, Bool, true, false, ◌||◌, ◌&&◌, if◌then◌else◌, List, [], ◌∷◌, map, length, Option, Some, None, refl, sym, ap, ◌∙◌, subst, arith}
+use Rattle.std.proofs.Common.{◌≡◌, ℕ, ◌<◌, ℤ, Bool, true, false, List, [], map, Option, Some, None, refl, sym, ap, ◌∙◌, subst, arith}
 use Rattle.std.specs.Prelude.{◌==◌}
 use Rattle.std.specs.List.{list_all}
 use Rattle.wp_base.specs.declared.kinds.CellKind.{CellKind}
-use Rattle.wp_base.specs.declared.kinds.CellKind.TheVariants as cell
 use Rattle.wp_base.specs.declared.kinds.Kind.{Kind}
 use Rattle.wp_base.specs.Blocks.{count}
 use Rattle.c_kinds.specs.Models.{holds}
@@ -11,35 +10,36 @@ use Rattle.typed_prog.specs.declared.types.CoreType.{CoreType}
 use Rattle.typed_prog.specs.declared.operators.Path.{Path}
 use Rattle.typed_prog.specs.Tree as tree
 use Rattle.acsl_truth.specs.States.{Value, number}
-use Rattle.c_runs.specs.Program.{Claim, Variable, Facts, Function, Contract, Loop, Program}
-use Rattle.c_runs.specs.States.{Memory, World, Here, Granted, is_nonzero}
+use Rattle.c_runs.specs.Program.{Function, Program}
+use Rattle.c_runs.specs.States.{Memory, World, Here, is_nonzero}
 use Rattle.c_runs.specs.Claims as claims
 use Rattle.c_runs.specs.Claims.{Stop, unless_true, in_body, in_loop, may_change_local}
 use Rattle.c_runs.specs.Scopes.{entered}
 use Rattle.c_runs.specs.Calls.{Eval, gives, stops, nought}
-use Rattle.core_runs.specs.Run.{CoreWorld, Ending, goes_on, exits, returns, stopped, with_eval, with_temp, in_world, scope_end}
+use Rattle.core_runs.specs.Run.{CoreWorld, Ending, goes_on, with_eval, with_temp, in_world, scope_end}
 use Rattle.rte_checks.specs.Checks.{Check}
 use Rattle.core_checks.specs.Tree.{Goal, nowhere, temporary, place, variable, Step, set, store, start, call, branch, repeat, around, exit, give, claim, scope, Steps, end, then_}
 use Rattle.core_checks.specs.Run as run
-use Rattle.plain_states.specs.Slots.{State, Sizes, at, temp_slot, with_temp_slot, result_slot, memory_in, world_in, core_in}
-use Rattle.plain_states.specs.Scopes.{IsClean, is_integer, kind_of, scope_state, scope_contents}
+use Rattle.plain_states.specs.Slots.{State, at, temp_slot, with_temp_slot, memory_in, world_in, core_in}
+use Rattle.plain_states.specs.Scopes.{is_integer, scope_state, scope_contents}
 use Rattle.plain_states.proofs.Puts.{changes_are_puts}
 use Rattle.plain_states.proofs.Scoping.{enters_scope}
-use Rattle.plain_runs.specs.Fitting.{Shape, sizes, Fit, IsOf, Gives, AreOf, GiveAll, LeadsTo, Takes, Stores, with_names, Declares, Receives, by_temporary, by_place, by_variable, Calls, for_nothing, for_result, FitsStep, FitsSteps, FitsProgram, is_param, FitsFunction}
-use Rattle.plain_runs.specs.Kept.{is_local, goal_sets, sets, some_sets, goal_temp, temps, some_temps, AllBelow, may_change_global, IsScoped, KeptFile, Kept, IsResult, Returned, IsAt, Comes}
-use Rattle.plain_runs.specs.Laws.{shape, Keeps}
+use Rattle.plain_runs.specs.Fitting.{IsGood, Shape, sizes, Fit, IsOf, LeadsTo, Stores, with_names, Receives, by_temporary, by_place, by_variable, Calls, for_nothing, for_result, FitsStep, FitsSteps, FitsProgram}
+use Rattle.plain_runs.specs.Kept.{is_local, goal_sets, sets, some_sets, goal_temp, temps, some_temps, AllBelow, IsScoped, Kept, IsResult, Returned}
+use Rattle.plain_runs.specs.Laws.{Keeps}
+use Rattle.plain_runs.proofs.Cells.{clean_of}
 use Rattle.plain_runs.proofs.Sets.{loop_globals, loop_locals, loop_below}
-use Rattle.plain_runs.proofs.Keeping.{first_false, second_false, kept_none, kept_more, file_of, block_comes, comes_more}
+use Rattle.plain_runs.proofs.Keeping.{first_false, second_false, kept_none, kept_more, file_of, block_comes}
 use Rattle.plain_runs.proofs.Writes.{temp_kept}
-use Rattle.plain_runs.proofs.Scopes.{Entered, enters}
+use Rattle.plain_runs.proofs.Scopes.{enters}
 use Rattle.plain_runs.proofs.Objects.{stores, takes}
-use Rattle.plain_runs.proofs.Evals.{CallAt, Given, call_given}
+use Rattle.plain_runs.proofs.Evals.{Given, call_given}
 use Rattle.plain_runs.proofs.Endings.{Ends, asked_ends, ends_more, ends_after, ends_then, ends_unless, ends_if, ends_pass, ends_scope}
 
 abbrev unchanged_sub : {X : Type 0} (f : X → Bool) (x : X) → f x ≡ false → f x ≡ false
 unchanged_sub f x h = h
 
-module _ (q : Program Steps) (fits : FitsProgram q) (m : Memory) (clean : IsClean m) (deeper : run.Deeper) (keeps : Keeps q fits m deeper) (s : Shape) (integers : list_all is_integer s.variables ≡ true) where
+module _ (q : Program Steps) (fits : FitsProgram q) (m : Memory) (good : IsGood q.facts m) (deeper : run.Deeper) (keeps : Keeps q fits m deeper) (s : Shape) (integers : list_all is_integer s.variables ≡ true) where
   abbrev Done : (here : Here) (t u f : ℕ → Bool) → State → Ending → Type 0
   Done here t u f st o = Ends q.facts s m here.granted t u f st o
 
@@ -96,10 +96,10 @@ module _ (q : Program Steps) (fits : FitsProgram q) (m : Memory) (clean : IsClea
       → Done here (goal_sets to) (goal_temp to) f st (run.exec q deeper s.variables here (call cs to k l es) (at_state n vs st))
   call_done here f low below cs to k l es g found (for_nothing args) n vs st fit scoped =
       asked_ends (Done here (goal_sets nowhere) (goal_temp nowhere) f st) (λ u l. tt) cs _ _ (λ met.
-      let zs = args m n vs st fit met in
+      let zs = args m good n vs st fit met in
       subst (λ ws. Done here (goal_sets nowhere) (goal_temp nowhere) f st (with_eval (run.calls q deeper here k l ws (world_in (sizes q.facts s) m n vs st)) (λ v w. run.result_to q deeper s.variables here nowhere v (in_world (at_state n vs st) w)))) (sym zs.1)
       (eval_done here (goal_sets nowhere) (goal_temp nowhere) f g.result n vs st (run.calls q deeper here k l (map number zs.0) (world_in (sizes q.facts s) m n vs st)) _
-      (call_given q fits m clean deeper keeps s here f st fit scoped k g found zs.0 zs.2 l n vs)
+      (call_given q fits m good deeper keeps s here f st fit scoped k g found zs.0 zs.2 l n vs)
       (λ v n' vs' after kept result. record {
         turns = n';
         contents = vs';
@@ -109,10 +109,10 @@ module _ (q : Program Steps) (fits : FitsProgram q) (m : Memory) (clean : IsClea
       })))
   call_done here f low below cs to k l es g found (for_result {k = kind} args result receives) n vs st fit scoped =
       asked_ends (Done here (goal_sets to) (goal_temp to) f st) (λ u l. tt) cs _ _ (λ met.
-      let zs = args m n vs st fit met in
+      let zs = args m good n vs st fit met in
       subst (λ ws. Done here (goal_sets to) (goal_temp to) f st (with_eval (run.calls q deeper here k l ws (world_in (sizes q.facts s) m n vs st)) (λ v w. run.result_to q deeper s.variables here to v (in_world (at_state n vs st) w)))) (sym zs.1)
       (eval_done here (goal_sets to) (goal_temp to) f g.result n vs st (run.calls q deeper here k l (map number zs.0) (world_in (sizes q.facts s) m n vs st)) _
-      (call_given q fits m clean deeper keeps s here f st fit scoped k g found zs.0 zs.2 l n vs)
+      (call_given q fits m good deeper keeps s here f st fit scoped k g found zs.0 zs.2 l n vs)
       (λ v n' vs' after kept is.
       subst (λ c. Done here (goal_sets to) (goal_temp to) f after (run.result_to q deeper s.variables here to v c)) (sym (behind_same n n' vs vs' st after (λ i. kept.temporaries i refl)))
       (result_done here f low below kind to receives n' vs' after kept.fit kept.scoped v (subst (λ r. IsResult q.facts r v) result is)))))
@@ -123,7 +123,7 @@ module _ (q : Program Steps) (fits : FitsProgram q) (m : Memory) (clean : IsClea
       → Done here (is_local path.root) (λ n. false) f st (run.exec q deeper s.variables here (store cs type l path es) (at_state n vs st))
   store_done here f cs type l path es k way gives_it n vs st fit scoped =
       asked_ends (Done here (is_local path.root) (λ n. false) f st) (λ u l. tt) cs _ _ (λ met.
-      let v = gives_it m n vs st fit met in
+      let v = gives_it m good n vs st fit met in
       stores q deeper s fits.globals integers m here (is_local path.root) (λ n. false) f n vs st fit scoped type l path _ k _ v.0 way v.1 v.2 (λ i h. h))
 
   mutual
@@ -131,11 +131,11 @@ module _ (q : Program Steps) (fits : FitsProgram q) (m : Memory) (clean : IsClea
         → Done here (sets a) (temps a) f st (run.exec q deeper s.variables here a (at_state n vs st))
     statement_done f low here below (set cs i e) h n vs st fit scoped =
         asked_ends (Done here (λ x. false) (λ j. i == j) f st) (λ u l. tt) cs _ _ (λ met.
-        let v = h.1 m n vs st fit met in temp_done here (λ x. false) f n vs st fit scoped i _ v.0 h.0 v.1 v.2)
+        let v = h.1 m good n vs st fit met in temp_done here (λ x. false) f n vs st fit scoped i _ v.0 h.0 v.1 v.2)
     statement_done f low here below (store cs type l path es) h n vs st fit scoped = store_done here f cs type l path es h.0 h.1 h.2 n vs st fit scoped
     statement_done f low here below (start cs x e) h n vs st fit scoped =
         asked_ends (Done here (λ y. x == y) (λ n. false) f st) (λ u l. tt) cs _ _ (λ met.
-        let v = h.2 m n vs st fit met in
+        let v = h.2 m good n vs st fit met in
         takes q deeper s fits.globals integers m here (λ y. x == y) (λ n. false) f n vs st fit scoped low below x h.0 _ v.0 h.1 v.1 v.2 (λ i h. h))
     statement_done f low here below (call cs to k l es) h n vs st fit scoped = call_done here f low below cs to k l es h.0 h.1 h.2 n vs st fit scoped
     statement_done f low here below (branch cs e a b) h n vs st fit scoped =
@@ -171,7 +171,7 @@ module _ (q : Program Steps) (fits : FitsProgram q) (m : Memory) (clean : IsClea
         }
     statement_done f low here below (give cs (Some e)) h n vs st fit scoped =
         asked_ends (Done here (λ x. false) (λ n. false) f st) (λ u l. tt) cs _ _ (λ met.
-        let v = h.2 m n vs st fit met in
+        let v = h.2 m good n vs st fit met in
         record {
           turns = n;
           contents = vs;
@@ -194,7 +194,7 @@ module _ (q : Program Steps) (fits : FitsProgram q) (m : Memory) (clean : IsClea
         let way : in_world (at_state n vs st) (entered q.facts s.variables ys (world_in (sizes q.facts s) m n vs st)) ≡ at_state n contents inside =
         ap (in_world (at_state n vs st)) (enters_scope q.facts s.variables integers m n ys vs st (omega (arith, size))) ∙ behind_same n n vs contents st inside begins.spares.temps in
         subst (λ c. Done here (some_sets ss) (some_temps ss) f st (scope_end (memory_in (sizes q.facts s) m st) ys (run.exec_all q deeper s.variables here ss c))) (sym way)
-        (ends_scope q.facts s m clean here.granted (some_sets ss) (some_temps ss) f low below ys h.0 st inside scoped begins _
+        (ends_scope q.facts s m (clean_of q.facts m good.well) here.granted (some_sets ss) (some_temps ss) f low below ys h.0 st inside scoped begins _
         (all_done (with_names ys f) low here below ss h.1 n contents inside begins.fit begins.scoped))
 
     pub all_done : (f : ℕ → Bool) (low : ℕ) (here : Here) → AllBelow low here.granted → (ss : Steps) → FitsSteps q.facts s q.functions f low ss → (n : ℕ) (vs : List Value) (st : State) → Fit q.facts s st → IsScoped q.facts s f st

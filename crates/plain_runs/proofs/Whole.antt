@@ -1,5 +1,5 @@
 -- A whole run begins in a well-formed memory, whose variables are slots, and leaves one.
-use Rattle.std.proofs.Common.{◌≡◌, ℕ, zero, suc, ◌+◌, ◌-◌, ◌<◌, ◌≤◌, ℤ, pos, negsuc, Bool, true, false, ◌&&◌, if◌then◌else◌, List, [], ◌∷◌, ◌++◌, map, length, Option, Some, None, slice_get, refl, sym, ap, ◌∙◌, subst, inl, inr, arith, length-append}
+use Rattle.std.proofs.Common.{◌≡◌, ℕ, zero, suc, ◌+◌, ◌<◌, ℤ, pos, negsuc, Bool, true, false, ◌&&◌, if◌then◌else◌, List, [], ◌∷◌, ◌++◌, map, length, Some, None, slice_get, refl, sym, ap, ◌∙◌, subst, inr, arith, length-append}
 use Rattle.std.specs.Prelude.{int_lt, nat_lt}
 use Rattle.std.specs.List.{list_all}
 use Rattle.std.proofs.lemmas.Bool.{false≢true, and_parts, ltb-true, lt-ltb}
@@ -7,55 +7,29 @@ use Rattle.wp_base.specs.declared.kinds.CellKind.{CellKind}
 use Rattle.wp_base.specs.declared.kinds.CellKind.TheVariants as cell
 use Rattle.wp_base.specs.declared.kinds.Kind.{Kind}
 use Rattle.wp_base.specs.declared.kinds.Kind.TheVariants as kind
-use Rattle.wp_base.specs.Blocks.{Table, Block, count, or_ended, block_at, block_cells, is_some_cell, has_cell, is_cell, has_layout}
+use Rattle.wp_base.specs.Blocks.{Table, count, or_ended, block_at, block_cells, has_cell, is_cell, has_layout}
 use Rattle.c_kinds.specs.Models.{holds}
 use Rattle.qed_terms.specs.Operators.{is_zero, is_equal}
 use Rattle.acsl_truth.specs.States.{Value, number, pointer, addresses, region, number_of}
-use Rattle.c_runs.specs.Program.{Variable, Facts, Function, Program}
-use Rattle.c_runs.specs.States.{Local, plain, unset, Memory, World, Here, count_plain, plain_globals, global_home, no_locals}
+use Rattle.c_runs.specs.Program.{Variable, Facts}
+use Rattle.c_runs.specs.States.{plain, unset, Memory, count_plain, no_locals}
 use Rattle.c_runs.specs.Scopes.{scalar_of}
 use Rattle.c_runs.specs.Calls.{Eval, gives, stops}
 use Rattle.c_runs.specs.Entry.{is_value, is_placed, is_home, IsWellFormed}
 use Rattle.c_runs.specs.Run as spelled
-use Rattle.core_checks.specs.Tree.{Steps}
 use Rattle.core_checks.specs.Run as run
-use Rattle.plain_states.specs.Slots.{State, Sizes, sizes_of, double, at, held, value_slot, flag_slot, local_value, local_flag, temp_slot, local_in, cell_in, memory_in, world_in}
-use Rattle.plain_states.specs.Scopes.{IsClean, is_integer, are_one_integer, kind_in, kind_of, zeros}
-use Rattle.plain_states.proofs.Lists.{double_is, value_before}
+use Rattle.plain_states.specs.Slots.{State, double, at, held, value_slot, flag_slot, local_value, local_flag, local_in, cell_in, memory_in, world_in}
+use Rattle.plain_states.specs.Scopes.{IsClean, is_integer, are_one_integer, kind_of, zeros}
 use Rattle.plain_states.proofs.Puts.{zero_is}
 use Rattle.plain_states.proofs.Scoping.{listed_integer, found_below, cell_of_integer, none_some}
-use Rattle.plain_states.proofs.Calling.{some_same}
 use Rattle.plain_states.proofs.Entering.{found}
-use Rattle.plain_runs.specs.Fitting.{Shape, sizes, IsFlag, Fit, AreOf, FitsProgram}
-use Rattle.plain_runs.specs.Kept.{IsScoped, IsResult, Kept}
+use Rattle.plain_runs.specs.Fitting.{IsGood, Shape, sizes, Fit}
 use Rattle.plain_runs.specs.Laws.{LeavesWell, RunsLeaveWell}
+use Rattle.plain_runs.proofs.Cells.{no_negative}
 use Rattle.plain_runs.proofs.Objects.{home_is}
-use Rattle.plain_runs.proofs.Scopes.{on_bool, zero_of}
-use Rattle.plain_runs.proofs.Evals.{CallAt, Given, call_given}
+use Rattle.plain_runs.proofs.Scopes.{on_bool}
+use Rattle.plain_runs.proofs.Evals.{Given, call_given}
 use Rattle.plain_runs.proofs.Levels.{levels_keep}
-
--- ---- blocks
-
-no_cell : (k : CellKind) (o : ℤ) → has_cell k [] o ≡ true → ⊥
-no_cell k (pos n) h = false≢true h
-no_cell k (negsuc n) h = false≢true h
-
-listed : (t : Table) (i : ℕ) (k : CellKind) (o : ℤ) → has_cell k (block_cells (or_ended (slice_get t i))) o ≡ true → i < length t
-listed [] i k o h = absurd (no_cell k o h)
-listed (x ∷ t) zero k o h = omega arith
-listed (x ∷ t) (suc i) k o h = let r = listed t i k o h in omega (arith, r)
-
-cell_before : (k : CellKind) (t : Table) (n : ℕ) (o : ℤ) → is_cell k t (pos n) o ≡ true → int_lt (pos n) (count t) ≡ true
-unfolding block_at
-cell_before k t zero o h = absurd (no_cell k o h)
-cell_before k t (suc i) o h = let r = listed t i k o h in lt-ltb (suc i) (suc (length t)) (omega (arith, r))
-
-pub no_negative : (k : CellKind) (t : Table) (n : ℕ) (o : ℤ) → is_cell k t (negsuc n) o ≡ true → ⊥
-unfolding block_at
-no_negative k t n o h = no_cell k o h
-
-pub clean_of : (p : Facts) (m : Memory) → IsWellFormed p m → IsClean m
-clean_of p m well k o h = well.elsewhere (pos k) o refl (λ c. on_bool (is_cell c m.blocks (pos k) o) (λ e. absurd (false≢true (sym h ∙ cell_before c m.blocks k o e))) (λ e. e))
 
 -- ---- the slots of a memory
 
@@ -171,12 +145,12 @@ module _ (p : Facts) (integers : list_all is_integer p.globals ≡ true) where
           ap (λ b. if b then held st (value_slot n) else m.cells (negsuc n) o) (ap (λ g. nat_lt n g && is_zero o) (sym (all_plain p.globals integers)) ∙ h) ∙ well.elsewhere (negsuc n) o h none
 
 pub runs_leave_well : RunsLeaveWell
-runs_leave_well q fits k g e m well zs args n contents =
-    let h = call_given q fits m (clean_of q.facts m well) (run.levels q n) (levels_keep q fits m (clean_of q.facts m well) n) outer
-    (spelled.outside k q.facts m) (λ x. false) (start q.facts fits.globals m well) (start_fits q.facts fits.globals m well) (λ x l h. absurd (omega (arith, l))) k g e zs args 0 n contents in
-    by (run.calls q (run.levels q n) (spelled.outside k q.facts m) k 0 (map number zs) (world_in (sizes q.facts outer) m n contents (start q.facts fits.globals m well))) h
-    (ap (run.calls q (run.levels q n) (spelled.outside k q.facts m) k 0 (map number zs)) (first_world q.facts fits.globals m well n contents)) where
-      by : (o : Eval) → Given q outer m g.result (spelled.outside k q.facts m) (λ x. false) (start q.facts fits.globals m well) o → {e : Eval} → o ≡ e → LeavesWell q g e
+runs_leave_well q fits k g e m good zs args n contents =
+    let h = call_given q fits m good (run.levels q n) (levels_keep q fits m good n) outer
+    (spelled.outside k q.facts m) (λ x. false) (start q.facts fits.globals m good.well) (start_fits q.facts fits.globals m good.well) (λ x l h. absurd (omega (arith, l))) k g e zs args 0 n contents in
+    by (run.calls q (run.levels q n) (spelled.outside k q.facts m) k 0 (map number zs) (world_in (sizes q.facts outer) m n contents (start q.facts fits.globals m good.well))) h
+    (ap (run.calls q (run.levels q n) (spelled.outside k q.facts m) k 0 (map number zs)) (first_world q.facts fits.globals m good.well n contents)) where
+      by : (o : Eval) → Given q outer m g.result (spelled.outside k q.facts m) (λ x. false) (start q.facts fits.globals m good.well) o → {e : Eval} → o ≡ e → LeavesWell q g e
       by (gives v w) h same = subst (LeavesWell q g) same
-          (subst (λ w. LeavesWell q g (gives v w)) (sym h.same) (leaves q.facts fits.globals m well outer h.state h.kept.fit, h.result))
+          (subst (λ w. LeavesWell q g (gives v w)) (sym h.same) (leaves q.facts fits.globals m good.well outer h.state h.kept.fit, h.result))
       by (stops x) h same = subst (LeavesWell q g) same tt

@@ -1,16 +1,15 @@
 -- A temporary or a variable that is set keeps what isn't it, and the slots fit.
-use Rattle.std.proofs.Common.{◌≡◌, ℕ, zero, suc, ◌+◌, ◌<◌, ◌≤◌, ℤ, pos, Bool, true, false, List, length, Option, Some, None, slice_get, refl, sym, ap, ◌∙◌, subst, ◌⊎◌, inl, inr, arith}
+use Rattle.std.proofs.Common.{◌≡◌, ℕ, ◌+◌, ◌<◌, ◌≤◌, ℤ, pos, Bool, true, false, List, length, Some, slice_get, refl, sym, ap, ◌∙◌, subst, inr, arith}
 use Rattle.std.specs.Prelude.{◌==◌}
 use Rattle.std.proofs.lemmas.Bool.{false≢true}
 use Rattle.std.proofs.lemmas.Bool.Decides.{Decides-eqb}
-use Rattle.wp_base.specs.declared.kinds.Kind.{Kind}
 use Rattle.c_kinds.specs.Models.{holds}
 use Rattle.c_runs.specs.Program.{Facts, Variable}
 use Rattle.c_runs.specs.States.{Granted}
 use Rattle.c_runs.specs.Claims.{may_change_local}
-use Rattle.plain_states.specs.Slots.{State, Sizes, at, put, double, value_slot, flag_slot, local_value, local_flag, temp_slot, with_temp_slot, with_variable}
+use Rattle.plain_states.specs.Slots.{State, at, double, value_slot, flag_slot, local_value, local_flag, temp_slot, with_temp_slot, with_variable}
 use Rattle.plain_states.specs.Scopes.{kind_of}
-use Rattle.plain_states.proofs.Lists.{put_here, put_elsewhere, put_length, double_is, value_before, flag_before, set_value, set_flag, set_other, set_behind, set_length}
+use Rattle.plain_states.proofs.Lists.{put_here, put_elsewhere, put_length, value_before, flag_before, set_value, set_flag, set_other, set_behind, set_length}
 use Rattle.plain_states.proofs.Scoping.{found_below}
 use Rattle.plain_states.proofs.Calling.{some_same}
 use Rattle.plain_runs.specs.Fitting.{Shape, sizes, IsFlag, Fit}

@@ -12,13 +12,14 @@ use Rattle.typed_prog.specs.declared.operators.Root.TheVariants as root
 use Rattle.typed_prog.specs.declared.operators.Variable.TheVariants as variable
 use Rattle.typed_prog.specs.Tree as t
 use Rattle.acsl_truth.specs.States.{Value, number}
-use Rattle.c_runs.specs.Program.{Loop, Variable, Function, Facts, Program}
+use Rattle.c_runs.specs.Program.{Variable, Function, Facts, Program}
 use Rattle.c_runs.specs.States.{Memory}
+use Rattle.c_runs.specs.Entry.{leads_well, IsWellFormed}
 use Rattle.rte_checks.specs.Checks.{Check}
 use Rattle.rte_checks.specs.Tests.{total, totals, is_met}
 use Rattle.core_checks.specs.Tree.{Goal, nowhere, temporary, place, variable as to_variable, Step, set, store, start, call, branch, repeat, around, exit, give, claim, scope, Steps, end, then_}
 use Rattle.core_checks.specs.Run.{is_met_in, place_test, way_values, stored_value}
-use Rattle.plain_states.specs.Slots.{State, Sizes, sizes_of, at, value_slot, flag_slot, local_value, local_flag, temp_slot, temps_in, world_in}
+use Rattle.plain_states.specs.Slots.{State, Sizes, sizes_of, at, value_slot, flag_slot, local_value, temp_slot, temps_in, world_in}
 use Rattle.plain_states.specs.Scopes.{is_integer, kind_of}
 
 -- what a function is made of: its variables, how many temporaries it has and of which kinds, and the kind of its result
@@ -40,6 +41,13 @@ with_names (y ∷ ys) f = with_names ys (with_name y f)
 -- numbers of the kinds of the first variables of a function
 abbrev pub AreOf : Facts → List Variable → (count : ℕ) → List ℤ → Type 0
 AreOf p xs n zs = (length zs ≡ n) × ((x : ℕ) (v : Variable) (z : ℤ) → slice_get xs x ≡ Some v → slice_get zs x ≡ Some z → holds p.model (kind_of v) z ≡ true)
+
+-- ---- memories
+
+-- well formed, and no pointer leads to a variable of the file whose address is never taken
+pub record IsGood (p : Facts) (m : Memory) : Type 0 where
+  pub well : IsWellFormed p m
+  pub pointers : (b o : ℤ) → leads_well (m.cells b o) ≡ true
 
 -- ---- states that fit
 
@@ -75,10 +83,10 @@ module _ (p : Facts) (s : Shape) where
 
   -- where its checks are met, in every state that fits
   abbrev pub Gives : List Check → t.Value → Kind → Type 0
-  Gives cs e k = (m : Memory) (n : ℕ) (vs : List Value) (st : State) → Fit st → list_all (test_at m n vs st e) cs ≡ true → IsOf k (total_at m n vs st e)
+  Gives cs e k = (m : Memory) → IsGood p m → (n : ℕ) (vs : List Value) (st : State) → Fit st → list_all (test_at m n vs st e) cs ≡ true → IsOf k (total_at m n vs st e)
 
   abbrev pub GiveAll : List Check → t.Values → List Variable → (count : ℕ) → Type 0
-  GiveAll cs es xs k = (m : Memory) (n : ℕ) (vs : List Value) (st : State) → Fit st
+  GiveAll cs es xs k = (m : Memory) → IsGood p m → (n : ℕ) (vs : List Value) (st : State) → Fit st
       → list_all (is_met_in p s.variables (temps_in sizes st) (world_in sizes m n vs st) es) cs ≡ true
       → (zs : List ℤ) × (totals_at m n vs st es ≡ map number zs) × AreOf p xs k zs
 
@@ -93,7 +101,7 @@ module _ (p : Facts) (s : Shape) where
 
   -- what an assignment stores is of the object's kind
   abbrev pub Stores : List Check → CoreType → Path → t.Values → Kind → Type 0
-  Stores cs type path es k = (m : Memory) (n : ℕ) (vs : List Value) (st : State) → Fit st
+  Stores cs type path es k = (m : Memory) → IsGood p m → (n : ℕ) (vs : List Value) (st : State) → Fit st
       → list_all (place_test p s.variables (temps_in sizes st) (world_in sizes m n vs st) type path (way_values (totals_at m n vs st es)) es) cs ≡ true
       → IsOf k (stored_value (totals_at m n vs st es))
 

@@ -1,5 +1,5 @@
 -- What a run of a statement leaves alone, in a program over plain integers (ACSL 2.3.2, 2.4.2).
-use Rattle.std.specs.Prelude.{◌≡◌, ◌<◌, ◌≤◌, ℕ, ◌+◌, ◌==◌, ℤ, pos, negsuc, Bool, true, false, ◌||◌, List, [], ◌∷◌, Option, Some, None, slice_get}
+use Rattle.std.specs.Prelude.{◌≡◌, ◌<◌, ◌≤◌, ℕ, ◌==◌, ℤ, pos, negsuc, Bool, true, false, ◌||◌, List, [], ◌∷◌, Option, Some, None, slice_get}
 use Rattle.wp_base.specs.declared.kinds.CellKind.{CellKind}
 use Rattle.wp_base.specs.declared.kinds.CellKind.TheVariants as cell
 use Rattle.c_kinds.specs.Models.{holds}
@@ -13,7 +13,7 @@ use Rattle.c_runs.specs.Claims.{may_change, may_change_local}
 use Rattle.c_runs.specs.Calls.{nought}
 use Rattle.core_runs.specs.Run.{CoreWorld, Ending, goes_on, exits, returns, stopped}
 use Rattle.core_checks.specs.Tree.{Goal, nowhere, temporary, place, variable as to_variable, Step, set, store, start, call, branch, repeat, around, exit, give, claim, scope, Steps, end, then_}
-use Rattle.plain_states.specs.Slots.{State, Sizes, at, value_slot, flag_slot, local_value, local_flag, temp_slot, core_in}
+use Rattle.plain_states.specs.Slots.{State, at, value_slot, flag_slot, local_value, local_flag, temp_slot, core_in}
 use Rattle.plain_states.specs.Scopes.{kind_of}
 use Rattle.plain_runs.specs.Fitting.{Shape, sizes, IsFlag, Fit}
 

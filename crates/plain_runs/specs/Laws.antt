@@ -1,5 +1,5 @@
 -- What is so of runs of programs over plain integers.
-use Rattle.std.specs.Prelude.{◌≡◌, ℕ, ℤ, Bool, true, List, [], map, Option, Some}
+use Rattle.std.specs.Prelude.{◌≡◌, ℕ, ℤ, Bool, true, List, map, Option, Some}
 use Rattle.std.specs.List.{list_all}
 use Rattle.acsl_truth.specs.States.{Value, number}
 use Rattle.c_runs.specs.Program.{Loop, Function, Program}
@@ -9,8 +9,8 @@ use Rattle.c_runs.specs.Entry.{IsWellFormed}
 use Rattle.core_checks.specs.Tree.{Steps}
 use Rattle.core_checks.specs.Run as run
 use Rattle.plain_states.specs.Slots.{State, core_in}
-use Rattle.plain_states.specs.Scopes.{IsClean, is_integer}
-use Rattle.plain_runs.specs.Fitting.{Shape, sizes, Fit, AreOf, shape_of, is_param, FitsSteps, FitsFunction, FitsProgram}
+use Rattle.plain_states.specs.Scopes.{is_integer}
+use Rattle.plain_runs.specs.Fitting.{IsGood, Shape, sizes, Fit, AreOf, shape_of, is_param, FitsSteps, FitsFunction, FitsProgram}
 use Rattle.plain_runs.specs.Kept.{AllBelow, some_sets, some_temps, IsScoped, KeptFile, Kept, IsResult, Returned, Comes}
 
 -- what is done a level deeper keeps what it has to
@@ -30,7 +30,7 @@ pub record Keeps (q : Program Steps) (fits : FitsProgram q) (m : Memory) (deeper
 -- At each level, and so for each number of turns. What is kept: variables and temporaries that a text doesn't set, variables that the sets in force don't let
 -- change; and each slot holds a number of its kind, what was set stays set, and what isn't in scope holds nothing.
 abbrev pub LevelsKeep : Type 0
-LevelsKeep = (q : Program Steps) (fits : FitsProgram q) (m : Memory) → IsClean m → (n : ℕ) → Keeps q fits m (run.levels q n)
+LevelsKeep = (q : Program Steps) (fits : FitsProgram q) (m : Memory) → IsGood q.facts m → (n : ℕ) → Keeps q fits m (run.levels q n)
 
 -- ---- whole runs
 
@@ -41,5 +41,5 @@ LeavesWell q g (stops s) = Unit {0}
 
 abbrev pub RunsLeaveWell : Type 0
 RunsLeaveWell =
-    (q : Program Steps) → FitsProgram q → (k : ℕ) (g : Function Steps) → q.functions k ≡ Some g → (m : Memory) → IsWellFormed q.facts m
+    (q : Program Steps) → FitsProgram q → (k : ℕ) (g : Function Steps) → q.functions k ≡ Some g → (m : Memory) → IsGood q.facts m
     → (zs : List ℤ) → AreOf q.facts g.variables g.params zs → (n : ℕ) (contents : List Value) → LeavesWell q g (run.run_function q k (map number zs) m n contents)

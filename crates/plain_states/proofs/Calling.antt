@@ -1,19 +1,15 @@
 -- The end of a scope, and calls, as changes of slots.
-use Rattle.std.proofs.Common.{◌≡◌, ℕ, zero, suc, ◌+◌, ◌-◌, ◌<◌, ◌≤◌, ℤ, pos, negsuc, ◌-ℤ◌, Bool, true, false, ◌&&◌, if◌then◌else◌, List, [], ◌∷◌, ◌++◌, map, length, Option, Some, None, slice_get, refl, sym, ap, ◌∙◌, append-nil, length-append, arith}
-use Rattle.std.specs.Prelude.{int_lt, nat_lt}
-use Rattle.std.specs.List.{list_all}
-use Rattle.std.proofs.lemmas.Bool.{false≢true, and_parts, lt-ltb, ltb-true}
+use Rattle.std.proofs.Common.{◌≡◌, ℕ, zero, suc, ◌+◌, ◌-◌, ◌<◌, ◌≤◌, ℤ, pos, negsuc, ◌-ℤ◌, Bool, true, false, if◌then◌else◌, List, [], ◌∷◌, ◌++◌, length, Option, Some, None, slice_get, refl, sym, ap, ◌∙◌, append-nil, length-append, arith}
+use Rattle.std.specs.Prelude.{int_lt}
 use Rattle.std.proofs.lemmas.Int.{ints}
 use Rattle.wp_base.specs.Blocks.{Table, count, grow, endeds, to_nat}
-use Rattle.qed_terms.specs.Operators.{is_zero, is_equal}
 use Rattle.acsl_truth.specs.States.{Value, number}
-use Rattle.c_runs.specs.Program.{Variable, Facts}
-use Rattle.c_runs.specs.States.{Local, plain, unset, Memory, World, with_local, with_memory, no_locals}
-use Rattle.c_runs.specs.Scopes.{ended_since, without_locals, left, param_made, params_made, arrived}
-use Rattle.plain_states.specs.Slots.{State, Sizes, sizes_of, double, at, held, with_variable, value_slot, flag_slot, local_value, local_flag, result_slot, local_in, cell_in, memory_in, world_in}
+use Rattle.c_runs.specs.States.{Memory, World, with_memory}
+use Rattle.c_runs.specs.Scopes.{ended_since, left}
+use Rattle.plain_states.specs.Slots.{State, Sizes, double, at, with_variable, value_slot, flag_slot, result_slot, cell_in, memory_in, world_in}
 use Rattle.plain_states.specs.Scopes.{IsClean, AllBelow, without_variables, zeros, first_slots, later_slots, argument_slots, entry_state, behind_state}
 use Rattle.plain_states.proofs.Lists.{set_length, double_is}
-use Rattle.plain_states.proofs.Puts.{if_same, local_world}
+use Rattle.plain_states.proofs.Puts.{local_world}
 use Rattle.plain_states.proofs.Scoping.{none_some, leaves_variables}
 
 -- ---- the end of a scope

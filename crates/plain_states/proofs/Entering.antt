@@ -1,19 +1,19 @@
 -- Calls as changes of slots: how a function is entered, and what its caller finds behind it.
-use Rattle.std.proofs.Common.{◌≡◌, ℕ, zero, suc, ◌+◌, ◌<◌, ◌≤◌, ℤ, pos, negsuc, Bool, true, false, ◌&&◌, if◌then◌else◌, List, [], ◌∷◌, map, length, Option, Some, None, slice_get, refl, sym, ap, ◌∙◌, arith}
+use Rattle.std.proofs.Common.{◌≡◌, ℕ, zero, suc, ◌+◌, ◌<◌, ◌≤◌, ℤ, pos, negsuc, Bool, true, false, ◌&&◌, if◌then◌else◌, List, [], ◌∷◌, map, length, Some, slice_get, refl, sym, ap, ◌∙◌, arith}
 use Rattle.std.specs.Prelude.{nat_lt}
 use Rattle.std.specs.List.{list_all}
-use Rattle.std.proofs.lemmas.Bool.{false≢true, and_parts, lt-ltb, ltb-true, ltb-false}
+use Rattle.std.proofs.lemmas.Bool.{and_parts, lt-ltb, ltb-true, ltb-false}
 use Rattle.qed_terms.specs.Operators.{is_zero, is_equal}
 use Rattle.acsl_truth.specs.States.{Value, number}
 use Rattle.c_runs.specs.Program.{Variable, Facts}
 use Rattle.c_runs.specs.States as run
 use Rattle.c_runs.specs.States.{Local, plain, unset, Memory, World, with_local, with_memory, no_locals}
-use Rattle.c_runs.specs.Scopes.{left, param_made, params_made, arrived}
-use Rattle.c_runs.specs.Calls.{Eval, gives, back_in}
+use Rattle.c_runs.specs.Scopes.{param_made, params_made, arrived}
+use Rattle.c_runs.specs.Calls.{gives, back_in}
 use Rattle.core_runs.specs.Run.{begun}
-use Rattle.plain_states.specs.Slots.{State, Sizes, sizes_of, double, at, held, value_slot, flag_slot, local_value, local_flag, temp_slot, local_in, cell_in, memory_in, world_in, temps_in, core_in}
+use Rattle.plain_states.specs.Slots.{State, Sizes, sizes_of, at, held, value_slot, local_value, local_flag, temp_slot, local_in, cell_in, world_in, temps_in, core_in}
 use Rattle.plain_states.specs.Scopes.{IsClean, is_integer, are_one_integer, entry_state, behind_state}
-use Rattle.plain_states.proofs.Lists.{double_is, value_before, flag_before}
+use Rattle.plain_states.proofs.Lists.{double_is, value_before}
 use Rattle.plain_states.proofs.Puts.{if_same, at_is}
 use Rattle.plain_states.proofs.Scoping.{none_some, listed_integer}
 use Rattle.plain_states.proofs.Calling.{some_same, ended_same, entry_first, entry_behind, entry_argument, behind_first, behind_later}

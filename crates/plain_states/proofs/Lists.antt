@@ -1,5 +1,5 @@
 -- Lists of slots with an item put at a place, and which slots differ.
-use Rattle.std.proofs.Common.{◌≡◌, ℕ, zero, suc, ◌+◌, ◌<◌, ◌≤◌, ℤ, pos, Bool, true, false, List, [], ◌∷◌, length, refl, sym, ap, ◌∙◌, arith}
+use Rattle.std.proofs.Common.{◌≡◌, ℕ, zero, suc, ◌+◌, ◌<◌, ◌≤◌, ℤ, pos, List, [], ◌∷◌, length, refl, sym, ap, ◌∙◌, arith}
 use Rattle.plain_states.specs.Slots.{State, at_or, put, double, value_slot, flag_slot, at, with_variable}
 
 -- ---- one item put

@@ -1,19 +1,18 @@
 -- Scopes of variables that are integers, as changes of slots.
-use Rattle.std.proofs.Common.{◌≡◌, ℕ, zero, suc, ◌+◌, ◌<◌, ◌≤◌, ℤ, pos, negsuc, Bool, true, false, ◌&&◌, if◌then◌else◌, List, [], ◌∷◌, length, Option, Some, None, is_some, slice_get, refl, sym, ap, ◌∙◌, arith}
-use Rattle.std.specs.Prelude.{int_lt}
+use Rattle.std.proofs.Common.{◌≡◌, ℕ, zero, suc, ◌+◌, ◌<◌, ◌≤◌, ℤ, pos, Bool, true, false, if◌then◌else◌, List, [], ◌∷◌, length, Option, Some, None, is_some, slice_get, refl, sym, ap, ◌∙◌, arith}
 use Rattle.std.specs.List.{list_all}
-use Rattle.std.proofs.lemmas.Bool.{false≢true, and_parts, lt-ltb}
+use Rattle.std.proofs.lemmas.Bool.{false≢true, and_parts}
 use Rattle.wp_base.specs.declared.kinds.CellKind.{CellKind}
 use Rattle.wp_base.specs.declared.kinds.CellKind.TheVariants as cell
 use Rattle.wp_base.specs.declared.kinds.Kind.{Kind}
-use Rattle.wp_base.specs.Blocks.{Table, count, grow}
+use Rattle.wp_base.specs.Blocks.{count}
 use Rattle.c_kinds.specs.Models.{holds}
 use Rattle.acsl_truth.specs.States.{Value, number, pointer, addresses, region, number_of, nothing_of}
 use Rattle.c_runs.specs.Program.{Variable, Facts}
-use Rattle.c_runs.specs.States.{Local, plain, unset, Memory, World, with_local, with_memory}
-use Rattle.c_runs.specs.Scopes.{is_content, as_content, next_content, others, scalar_of, plain_made, block_made, variable_made, entered, ended_since, without_locals, left}
-use Rattle.plain_states.specs.Slots.{State, Sizes, sizes_of, with_variable, result_slot, memory_in, world_in}
-use Rattle.plain_states.specs.Scopes.{are_one_integer, is_integer, kind_in, kind_of, first_value, first_flag, left_contents, made_state, made_contents, scope_state, scope_contents, without_variables, IsClean, AllBelow}
+use Rattle.c_runs.specs.States.{plain, Memory, with_local}
+use Rattle.c_runs.specs.Scopes.{next_content, others, scalar_of, plain_made, block_made, variable_made, entered, without_locals}
+use Rattle.plain_states.specs.Slots.{State, Sizes, sizes_of, with_variable, result_slot, world_in}
+use Rattle.plain_states.specs.Scopes.{are_one_integer, is_integer, kind_in, kind_of, first_value, first_flag, made_state, made_contents, scope_state, scope_contents, without_variables, AllBelow}
 use Rattle.plain_states.proofs.Lists.{set_length}
 use Rattle.plain_states.proofs.Puts.{local_world}
 

@@ -1,5 +1,5 @@
 -- Scopes and calls as changes of slots.
-use Rattle.std.specs.Prelude.{◌≡◌, ◌<◌, ℕ, zero, suc, ◌+◌, ◌-◌, ℤ, pos, int_lt, Bool, true, false, ◌&&◌, if◌then◌else◌, List, [], ◌∷◌, ◌++◌, length, take, drop, Option, Some, None, slice_get}
+use Rattle.std.specs.Prelude.{◌≡◌, ◌<◌, ℕ, zero, suc, ◌+◌, ℤ, pos, int_lt, Bool, true, false, ◌&&◌, if◌then◌else◌, List, [], ◌∷◌, ◌++◌, Option, Some, None, slice_get}
 use Rattle.wp_base.specs.declared.kinds.CellKind.{CellKind}
 use Rattle.wp_base.specs.declared.kinds.CellKind.TheVariants as cell
 use Rattle.wp_base.specs.declared.kinds.Kind.{Kind}
@@ -9,7 +9,7 @@ use Rattle.acsl_truth.specs.States.{Value, number, number_of}
 use Rattle.c_runs.specs.Program.{Variable, Facts}
 use Rattle.c_runs.specs.States.{Memory}
 use Rattle.c_runs.specs.Scopes.{next_content, others, scalar_of}
-use Rattle.plain_states.specs.Slots.{State, Sizes, sizes_of, double, with_variable, put, at, value_slot}
+use Rattle.plain_states.specs.Slots.{State, Sizes, sizes_of, double, with_variable}
 
 -- ---- variables that are integers
 

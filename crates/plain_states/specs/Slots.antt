@@ -1,10 +1,10 @@
 -- States of a function as lists of numbers, where all variables of the file and of the function are integers that no pointer leads to. Each variable has two
 -- slots: what it holds, and 1 where a value was set. Those of the file come first, then those of the function in their order; behind them stand the result,
 -- the result of a call, and the temporaries.
-use Rattle.std.specs.Prelude.{ℕ, zero, suc, ◌+◌, nat_lt, ℤ, pos, negsuc, Bool, true, false, ◌&&◌, if◌then◌else◌, List, [], ◌∷◌, length}
+use Rattle.std.specs.Prelude.{ℕ, zero, suc, ◌+◌, nat_lt, ℤ, pos, negsuc, ◌&&◌, if◌then◌else◌, List, [], ◌∷◌, length}
 use Rattle.qed_terms.specs.Operators.{is_zero, is_equal}
 use Rattle.acsl_truth.specs.States.{Value, number}
-use Rattle.c_runs.specs.Program.{Variable, Function, Facts}
+use Rattle.c_runs.specs.Program.{Variable, Facts}
 use Rattle.c_runs.specs.States.{Local, plain, unset, Memory, World}
 use Rattle.c_runs.specs.Values.{Temps}
 use Rattle.core_runs.specs.Run.{CoreWorld}

@@ -1,0 +1,6 @@
+//! Floor 5, goals: typed expressions over plain integers. Laws.
+#![tactic(auto)]
+
+mod laws;
+
+pub use laws::typed_give;

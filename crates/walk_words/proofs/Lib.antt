@@ -1,0 +1,5 @@
+pub mod Pushing
+pub mod GivenNames
+pub mod Joined
+pub mod Renewed
+pub mod Ending

@@ -5,6 +5,7 @@ use Rattle.std.proofs.lemmas.Bool.{false≢true, and_parts}
 use Rattle.wp_base.specs.declared.kinds.CellKind.{CellKind}
 use Rattle.wp_base.specs.declared.kinds.CellKind.TheVariants as cell
 use Rattle.wp_base.specs.declared.kinds.Kind.{Kind}
+use Rattle.wp_base.specs.Blocks.{count}
 use Rattle.c_kinds.specs.Models.{holds}
 use Rattle.typed_prog.specs.Tree as t
 use Rattle.acsl_truth.specs.States.{Value, number, pointer, addresses, region}
@@ -38,4 +39,4 @@ pub typed_give : TypedGive
 typed_give p s globals integers e typed k kind m good n vs st fit met =
     let w = world_in (sizes p s) m n vs st in
     let v = values_are_of_kind p s.variables (scope_of s) (temps_in (sizes p s) st) w (holds_kinds p s globals integers m good n vs st fit) e typed met in
-    number_is p s _ k (total p s.variables (temps_in (sizes p s) st) w e) (subst (λ c. is_content p _ c (total p s.variables (temps_in (sizes p s) st) w e) ≡ true) kind v)
+    number_is p s (count m.blocks) k (total p s.variables (temps_in (sizes p s) st) w e) (subst (λ c. is_content p (count m.blocks) c (total p s.variables (temps_in (sizes p s) st) w e) ≡ true) kind v)

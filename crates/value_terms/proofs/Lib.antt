@@ -3,7 +3,7 @@ mod Bitwise
 mod Listing
 mod Cells
 mod Holding
-mod Staying
+pub mod Staying
 mod Integers
 mod Saying
 mod Operands

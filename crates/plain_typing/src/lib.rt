@@ -3,4 +3,4 @@
 
 mod laws;
 
-pub use laws::typed_give;
+pub use laws::{typed_give, typed_give_all, typed_store};

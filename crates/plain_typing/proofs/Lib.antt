@@ -1,3 +1,4 @@
 pub mod Worlds
 pub mod Giving
 pub mod Operands
+pub mod Examples

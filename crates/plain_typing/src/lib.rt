@@ -3,4 +3,4 @@
 
 mod laws;
 
-pub use laws::{typed_give, typed_give_all, typed_store};
+pub use laws::{example_fits, typed_give, typed_give_all, typed_store};

@@ -43,11 +43,11 @@ module _ (p : Facts) (t : Table) where
         same = (λ i. (one.0 i) ∷ (rest.same i));
         fit = (ap suc rest.fit.0, λ i y z e g. at_place x xs (number_of v) rest.numbers one.1 rest.fit.1 i y z e g);
       } where
-    at_place : (x : Variable) (xs : List Variable) (u : ℤ) (zs : List ℤ) → holds p.model (kind_of x) u ≡ true
-        → ((i : ℕ) (y : Variable) (z : ℤ) → slice_get xs i ≡ Some y → slice_get zs i ≡ Some z → holds p.model (kind_of y) z ≡ true)
-        → (i : ℕ) (y : Variable) (z : ℤ) → slice_get (x ∷ xs) i ≡ Some y → slice_get (u ∷ zs) i ≡ Some z → holds p.model (kind_of y) z ≡ true
-    at_place x xs u zs h rest zero y z e g = subst (λ y. holds p.model (kind_of y) z ≡ true) (some_same x y e) (subst (λ z. holds p.model (kind_of x) z ≡ true) (some_same u z g) h)
-    at_place x xs u zs h rest (suc i) y z e g = rest i y z e g
+        at_place : (x : Variable) (xs : List Variable) (u : ℤ) (zs : List ℤ) → holds p.model (kind_of x) u ≡ true
+            → ((i : ℕ) (y : Variable) (z : ℤ) → slice_get xs i ≡ Some y → slice_get zs i ≡ Some z → holds p.model (kind_of y) z ≡ true)
+            → (i : ℕ) (y : Variable) (z : ℤ) → slice_get (x ∷ xs) i ≡ Some y → slice_get (u ∷ zs) i ≡ Some z → holds p.model (kind_of y) z ≡ true
+        at_place x xs u zs h rest zero y z e g = subst (λ y. holds p.model (kind_of y) z ≡ true) (some_same x y e) (subst (λ z. holds p.model (kind_of x) z ≡ true) (some_same u z g) h)
+        at_place x xs u zs h rest (suc i) y z e g = rest i y z e g
 
   pub arguments_are : (n : ℕ) (xs : List Variable) → list_all is_integer xs ≡ true → n ≤ length xs → (zs : List ℤ) → AreOf p xs n zs → are_arguments p t n xs (map number zs) ≡ true
   arguments_are zero xs all l [] fit = refl

@@ -102,10 +102,10 @@ module _ (q : Program Steps) (fits : FitsProgram q) (m : Memory) (good : IsGood 
       → Called q s m k g zs here f st (gives v (behind_call (world_in (sizes q.facts s) m n vs st) u))
   back n n' vs vs' v after u same file result none promised =
       let behind : behind_call (world_in (sizes q.facts s) m n vs st) u ≡ world_in (sizes q.facts s) m n' vs' (behind_state (sizes q.facts s).globals after st) =
-          ap (λ x. behind_call (world_in (sizes q.facts s) m n vs st) x) same
-          ∙ ap (eval_world (world_in (sizes q.facts s) m n vs st)) (comes_back (sizes q.facts callee) (sizes q.facts s) refl m clean n n' vs vs' v st after) in
+      ap (λ x. behind_call (world_in (sizes q.facts s) m n vs st) x) same
+      ∙ ap (eval_world (world_in (sizes q.facts s) m n vs st)) (comes_back (sizes q.facts callee) (sizes q.facts s) refl m clean n n' vs vs' v st after) in
       let kept = call_kept q.facts s callee st fit zs g.params args (fits.functions k g e).params f scoped here.granted there.granted
-              (entry_globals q.facts k (map number zs) mem g.contract here.granted) after file (λ x. false) (λ n. false) in
+      (entry_globals q.facts k (map number zs) mem g.contract here.granted) after file (λ x. false) (λ n. false) in
       is_back n' vs' (behind_state (sizes q.facts s).globals after st) behind result kept
       (record {
         good = good_state q.facts fits.globals m good s (behind_state (sizes q.facts s).globals after st) kept.fit;
@@ -116,16 +116,18 @@ module _ (q : Program Steps) (fits : FitsProgram q) (m : Memory) (good : IsGood 
         result = result_of g.result v result none;
         promises = sym (ap (λ (w : World). ensured q.facts alone w.memory v g.contract) behind) ∙ promised;
       }) where
-    kept_there : Kept q.facts s there.granted (λ x. false) (λ n. false) f st (behind_state (sizes q.facts s).globals after st)
-    kept_there = call_kept q.facts s callee st fit zs g.params args (fits.functions k g e).params f scoped there.granted there.granted (λ x h. h) after file (λ x. false) (λ n. false)
-    some_first : (ps hs : List Granted) (x : ℕ) → may_change_global ps x ≡ false → may_change_global (ps ++ hs) x ≡ false
-    some_first [] hs x h = absurd (false≢true (sym h))
-    some_first (p ∷ ps) hs x h = on_bool (is_named p.regions (negsuc x))
-        (λ t. ap (λ b. b && may_change_global (ps ++ hs) x) t ∙ some_first ps hs x (sym (ap (λ b. b && may_change_global ps x) t) ∙ h))
-        (λ t. ap (λ b. b && may_change_global (ps ++ hs) x) t)
-    changed_by : (x : ℕ) → x < (sizes q.facts s).globals → may_change_global (granted_in q.facts (at_entry q.facts (map number zs) mem) (count m.blocks) (parts_of g.contract)) x ≡ false
-        → at (behind_state (sizes q.facts s).globals after st) (value_slot x) ≡ at st (value_slot x)
-    changed_by x l h = kept_there.globals x l (some_first (granted_in q.facts (at_entry q.facts (map number zs) mem) (count m.blocks) (parts_of g.contract)) (map of_caller here.granted) x h)
+        kept_there : Kept q.facts s there.granted (λ x. false) (λ n. false) f st (behind_state (sizes q.facts s).globals after st)
+        kept_there = call_kept q.facts s callee st fit zs g.params args (fits.functions k g e).params f scoped there.granted there.granted (λ x h. h) after file (λ x. false) (λ n. false)
+
+        some_first : (ps hs : List Granted) (x : ℕ) → may_change_global ps x ≡ false → may_change_global (ps ++ hs) x ≡ false
+        some_first [] hs x h = absurd (false≢true (sym h))
+        some_first (p ∷ ps) hs x h = on_bool (is_named p.regions (negsuc x))
+            (λ t. ap (λ b. b && may_change_global (ps ++ hs) x) t ∙ some_first ps hs x (sym (ap (λ b. b && may_change_global ps x) t) ∙ h))
+            (λ t. ap (λ b. b && may_change_global (ps ++ hs) x) t)
+
+        changed_by : (x : ℕ) → x < (sizes q.facts s).globals → may_change_global (granted_in q.facts (at_entry q.facts (map number zs) mem) (count m.blocks) (parts_of g.contract)) x ≡ false
+            → at (behind_state (sizes q.facts s).globals after st) (value_slot x) ≡ at st (value_slot x)
+        changed_by x l h = kept_there.globals x l (some_first (granted_in q.facts (at_entry q.facts (map number zs) mem) (count m.blocks) (parts_of g.contract)) (map of_caller here.granted) x h)
 
   -- ---- the body, of which no segment run goes wrong
 
@@ -188,18 +190,23 @@ module _ (q : Program Steps) (fits : FitsProgram q) (m : Memory) (good : IsGood 
         (deep.body k g e among there alone.granted inside_agrees (below_both 0 own [] own_below tt) all_below n vs first begins.0 begins.1))
         (subst (λ c. Comes q.facts callee m (KeptFile q.facts callee there.granted first) (λ v after. Returned q.facts callee there.granted v first after) (deeper (run.body g) there c)) (sym way)
         (keeps.body k g e there all_below n vs first begins.0 begins.1)) where
-      own : List Granted
-      own = granted_in q.facts (at_entry q.facts (map number zs) mem) (count m.blocks) (parts_of g.contract)
-      enough : length zs ≤ length g.variables
-      enough = let a = args.0 in let b = (fits.functions k g e).params in omega (arith, a, b)
-      begins : Fit q.facts callee first × IsScoped q.facts callee (is_param g.params) first
-      begins = (entry_fits q.facts s callee st fit zs g.params args (fits.functions k g e).params, entry_scoped q.facts s callee st fit zs g.params args (fits.functions k g e).params)
-      own_below : AllBelow 0 own
-      own_below = parts_below q.facts (at_entry q.facts (map number zs) mem) (count m.blocks) (parts_of g.contract)
-      all_below : AllBelow 0 there.granted
-      all_below = entry_below q.facts k (map number zs) mem g.contract here.granted
-      inside_agrees : Agrees q.facts alone.granted there.granted
-      inside_agrees = call_agrees q.facts gs here.granted own agrees own_below inside
+          own : List Granted
+          own = granted_in q.facts (at_entry q.facts (map number zs) mem) (count m.blocks) (parts_of g.contract)
+
+          enough : length zs ≤ length g.variables
+          enough = let a = args.0 in let b = (fits.functions k g e).params in omega (arith, a, b)
+
+          begins : Fit q.facts callee first × IsScoped q.facts callee (is_param g.params) first
+          begins = (entry_fits q.facts s callee st fit zs g.params args (fits.functions k g e).params, entry_scoped q.facts s callee st fit zs g.params args (fits.functions k g e).params)
+
+          own_below : AllBelow 0 own
+          own_below = parts_below q.facts (at_entry q.facts (map number zs) mem) (count m.blocks) (parts_of g.contract)
+
+          all_below : AllBelow 0 there.granted
+          all_below = entry_below q.facts k (map number zs) mem g.contract here.granted
+
+          inside_agrees : Agrees q.facts alone.granted there.granted
+          inside_agrees = call_agrees q.facts gs here.granted own agrees own_below inside
 
   -- all that is asked behind the turn
   module _ (l : ℕ) (asked : required q.facts l (at_entry q.facts (map number zs) mem) g.contract ≡ None)

@@ -89,11 +89,14 @@ module _ (p : Facts) (xs : List Variable) (all : list_all is_integer xs ≡ true
       let cell_is = cell_of_integer v.layout.cells both.1 in
       let held = next_content p (count w.memory.blocks) (scalar_of v.layout.cells) w.contents in
       let made : with_local x (plain held false) (record w { contents = others w.contents }) ≡ variable_made p x (Some v) w =
-          sym (when_true v.is_plain (plain_made p x v w) (block_made p x v w) both.0
-          ∙ ap (λ b. if b then with_local x (plain (nothing_of (scalar_of v.layout.cells)) true) w else with_local x (plain held false) (record w { contents = others w.contents })) t) in
+      sym (when_true v.is_plain (plain_made p x v w) (block_made p x v w) both.0
+      ∙ ap (λ b. if b then with_local x (plain (nothing_of (scalar_of v.layout.cells)) true) w else with_local x (plain held false) (record w { contents = others w.contents })) t) in
       not_set e t both.0 held
-      (subst (λ c. IsAny c held) (sym cell_is) (number_of held, sym (ap (λ c. number (number_of (next_content p (count w.memory.blocks) c w.contents))) cell_is
-      ∙ content_number p (count w.memory.blocks) (kind_of v) w.contents ∙ sym (ap (λ c. next_content p (count w.memory.blocks) c w.contents) cell_is))))
+      (subst (λ c. IsAny c held) (sym cell_is) (
+        number_of held,
+        sym (ap (λ c. number (number_of (next_content p (count w.memory.blocks) c w.contents))) cell_is
+            ∙ content_number p (count w.memory.blocks) (kind_of v) w.contents ∙ sym (ap (λ c. next_content p (count w.memory.blocks) c w.contents) cell_is)),
+      ))
       (others w.contents) (subst (λ u. Opened p xs ys u (entered p xs ys (variable_made p x (Some v) w))) (sym made) (rest (variable_made p x (Some v) w))))
 
   pub opens : (ys : List ℕ) (w : World) → Opened p xs ys w (entered p xs ys w)

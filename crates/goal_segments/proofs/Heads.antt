@@ -47,6 +47,7 @@ module _ (p : Facts) (integers : list_all is_integer p.globals ≡ true) (m : Me
     by : (n : ℕ) (o : ℤ) (b : Bool) → leads_well (if b then held st (value_slot n) else m.cells (negsuc n) o) ≡ true
     by n o true = refl
     by n o false = good.pointers (negsuc n) o
+
     lead : (b o : ℤ) → leads_well (cell_in (sizes p s) m.cells st b o) ≡ true
     lead (pos n) o = good.pointers (pos n) o
     lead (negsuc n) o = by n o (nat_lt n (sizes p s).globals && is_zero o)
@@ -100,8 +101,8 @@ module _ (p : Facts) (integers : list_all is_integer p.globals ≡ true) (m : Me
       head_locals (Some ts) e x h =
           let own = granted_by p (in_body p (record here { loop_entry = seen p w }) w) (count w.memory.blocks) l.declared (Some ts) in
           let named : lets_at_head p (own_or own gs) ss x (own_regions (Some ts) (own_or own gs)) ≡ false =
-              subst (λ o. lets_at_head p (own_or (granted_by p (in_body p (record here { loop_entry = seen p w }) w) (count w.memory.blocks) l.declared o) gs) ss x
-              (own_regions (Some ts) (own_or (granted_by p (in_body p (record here { loop_entry = seen p w }) w) (count w.memory.blocks) l.declared o) gs)) ≡ false) e h in
+          subst (λ o. lets_at_head p (own_or (granted_by p (in_body p (record here { loop_entry = seen p w }) w) (count w.memory.blocks) l.declared o) gs) ss x
+          (own_regions (Some ts) (own_or (granted_by p (in_body p (record here { loop_entry = seen p w }) w) (count w.memory.blocks) l.declared o) gs)) ≡ false) e h in
           local_same st after x (λ le. on_bool (nat_le l.declared x)
           (λ t. inner_same x le (leb-true l.declared x t))
           (λ t. kept.allowed x le (sym (agrees.locals x)
@@ -135,18 +136,19 @@ module _ (p : Facts) (integers : list_all is_integer p.globals ≡ true) (m : Me
     SameBy gs = (x : ℕ) → x < (sizes p s).globals → may_change_global gs x ≡ false → at after (value_slot x) ≡ at st (value_slot x)
 
     set_allows : (o : Option (List Tree)) → SameBy (granted_by p v n 0 o) → SetAllows p v o (seen_by_contract p vs (memory_in (sizes p s) m st)) (seen_by_contract p vs (memory_in (sizes p s) m after))
-
     set_allows None h = tt
     set_allows (Some ts) h = record { cells = cells; globals = λ x neg named. globals x (slice_get p.globals x) refl neg named } where
       cells : (k : CellKind) (b o : ℤ) → is_cell k m.blocks b o ≡ true → lies_in (regions_of p v ts) k b o ≡ false
           → cell_by p (params_from 0 vs) (cell_in (sizes p s) m.cells after) b o ≡ cell_by p (params_from 0 vs) (cell_in (sizes p s) m.cells st) b o
       cells k (pos i) o c d = refl
       cells k (negsuc i) o c d = absurd (no_negative k m.blocks i o c)
+
       at_home : (x : ℕ) → x < (sizes p s).globals → is_named (regions_of p v ts) (negsuc x) ≡ false
           → cell_by p (params_from 0 vs) (cell_in (sizes p s) m.cells after) (negsuc x) (pos 0) ≡ cell_by p (params_from 0 vs) (cell_in (sizes p s) m.cells st) (negsuc x) (pos 0)
       at_home x l named =
           let same = h x l (ap (λ b. b && true) named) in
           λ i. if nat_lt x (plain_globals p) then (if nat_lt x (sizes p s).globals && true then number (same i) else m.cells (negsuc x) (pos 0)) else held_by (params_from 0 vs (x - plain_globals p))
+
       globals : (x : ℕ) (o : Option Variable) → slice_get p.globals x ≡ o → is_negative (global_home p x) ≡ true → is_named (regions_of p v ts) (global_home p x) ≡ false
           → cell_by p (params_from 0 vs) (cell_in (sizes p s) m.cells after) (global_home p x) (pos 0) ≡ cell_by p (params_from 0 vs) (cell_in (sizes p s) m.cells st) (global_home p x) (pos 0)
       globals x None e neg named = absurd (false≢true (sym (ap is_negative (homes_end 0 0 p.globals x e)) ∙ neg))
@@ -165,9 +167,9 @@ module _ (p : Facts) (integers : list_all is_integer p.globals ≡ true) (m : Me
         (λ t. ap (λ b. b && may_change_global (gs ++ hs) x) t)
 
     pub all_allow : (bs : List Behavior) → SameBy (granted_in p v n bs) → AllAllow p v bs (seen_by_contract p vs (memory_in (sizes p s) m st)) (seen_by_contract p vs (memory_in (sizes p s) m after))
-
     all_allow [] h = tt
-    all_allow (b ∷ bs) h =
-        (λ is. set_allows b.assigns (λ x l k. h x l (some_first (if is_assumed p v b then granted_by p v n 0 b.assigns else []) (granted_in p v n bs) x
-        (ap (λ t. may_change_global (if t then granted_by p v n 0 b.assigns else []) x) is ∙ k))),
-        all_allow bs (λ x l k. h x l (all_behind (lets_cell cell.Ptr (negsuc x) (pos 0)) (if is_assumed p v b then granted_by p v n 0 b.assigns else []) (granted_in p v n bs) k)))
+    all_allow (b ∷ bs) h = (
+      λ is. set_allows b.assigns (λ x l k. h x l (some_first (if is_assumed p v b then granted_by p v n 0 b.assigns else []) (granted_in p v n bs) x
+          (ap (λ t. may_change_global (if t then granted_by p v n 0 b.assigns else []) x) is ∙ k))),
+      all_allow bs (λ x l k. h x l (all_behind (lets_cell cell.Ptr (negsuc x) (pos 0)) (if is_assumed p v b then granted_by p v n 0 b.assigns else []) (granted_in p v n bs) k)),
+    )

@@ -37,15 +37,15 @@ module _ (q : Program Steps) (globals : list_all is_integer q.facts.globals ≡ 
   put_same f path k (to_local x y r ss e kind so) type l w ws v =
       let is_plain = (and_parts y.is_plain (are_one_integer y.layout.cells) (listed_integer s.variables integers x y e)).0 in
       let plainly : plain_root s.variables path.root ≡ Some x =
-          ap (plain_root s.variables) r ∙ ap (λ o. if is_plain_in o then Some x else None) e ∙ ap (λ b. if b then Some x else None) is_plain in
+      ap (plain_root s.variables) r ∙ ap (λ o. if is_plain_in o then Some x else None) e ∙ ap (λ b. if b then Some x else None) is_plain in
       ap (λ o. run.put_by o q.facts own l type path w ws v) plainly
       ∙ ap (λ b. granted b l (with_local x (plain v true) w)) (agrees.locals x)
       ∙ sym (ap (λ o. run.put_by o q.facts here l type path w ws v) plainly)
   put_same f path k (to_global x y r ss e kind) type l w ws v =
       let there : address q.facts w path ws ≡ pointer (negsuc x) (pos 0) =
-          ap (λ ss. along ws ss (start_at q.facts w path.root ws)) ss ∙ ap (λ r. start_at q.facts w r ws) r ∙ ap (λ b. pointer b (pos 0)) (home_is q.facts globals x y e) in
+      ap (λ ss. along ws ss (start_at q.facts w path.root ws)) ss ∙ ap (λ r. start_at q.facts w r ws) r ∙ ap (λ b. pointer b (pos 0)) (home_is q.facts globals x y e) in
       let way : (h : Here) → run.put q.facts s.variables h l type path w ws v ≡ cell_written h l (cell_of type) w (pointer (negsuc x) (pos 0)) v =
-          λ h. ap (λ r. run.put_by (plain_root s.variables r) q.facts h l type path w ws v) r ∙ ap (λ a. cell_written h l (cell_of type) w a v) there in
+      λ h. ap (λ r. run.put_by (plain_root s.variables r) q.facts h l type path w ws v) r ∙ ap (λ a. cell_written h l (cell_of type) w a v) there in
       way own
       ∙ ap (λ b. granted b l (with_memory (stored_in (negsuc x) (pos 0) v w.memory) w)) (agrees.globals x (ap (nat_lt x) (all_plain q.facts.globals globals) ∙ lt-ltb x (length q.facts.globals) (found_below q.facts.globals x y e)))
       ∙ sym (way here)

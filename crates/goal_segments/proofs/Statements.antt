@@ -103,30 +103,31 @@ module _ (q : Program Steps) (fits : FitsProgram q) (m : Memory) (good : IsGood 
   call_follows f low here gs agrees to cs k l es g found among results n vs st fit scoped args =
       asks_or (Follows (Runs here gs (call cs to k l es) (at_state n vs st))) cs _ _ (λ x a. goes_so (seg.argument_stops a))
       (λ asks met. let zs = args met in go zs.0 zs.1 zs.2 asks) where
-    go : (zs : List ℤ) → run.totals_in q no_deeper s.variables (at_state n vs st) es ≡ map number zs → AreOf q.facts g.variables g.params zs
-        → Asks (is_met_in q.facts s.variables (at_state n vs st).temps (at_state n vs st).world es) cs None
-        → Follows (Runs here gs (call cs to k l es) (at_state n vs st))
-        (with_eval (run.calls q deeper here k l (run.totals_in q deeper s.variables (at_state n vs st) es) (world_in (sizes q.facts s) m n vs st)) (λ v w. run.result_to q deeper s.variables here to v (in_world (at_state n vs st) w)))
-    go zs same fits_args asks =
-        subst (λ ws. Follows (Runs here gs (call cs to k l es) (at_state n vs st)) (with_eval (run.calls q deeper here k l ws (world_in (sizes q.facts s) m n vs st)) (λ v w. run.result_to q deeper s.variables here to v (in_world (at_state n vs st) w)))) (sym same)
-        (subst (λ o. Follows (Runs here gs (call cs to k l es) (at_state n vs st))
-        (with_eval (found_by q.facts (λ f here w. run.returned f (deeper (run.body f) here (begun w))) here k l o (map number zs) (world_in (sizes q.facts s) m n vs st)) (λ v w. run.result_to q deeper s.variables here to v (in_world (at_state n vs st) w)))) (sym found)
-        (asked_by (required q.facts l (at_entry q.facts (map number zs) (world_in (sizes q.facts s) m n vs st).memory) g.contract) refl)) where
-      lower_by : required q.facts l (at_entry q.facts (map number zs) (world_in (sizes q.facts s) m n vs st).memory) g.contract ≡ None → (t : Option Stop)
-          → decreased q.facts l here k (measure_of q.facts (at_entry q.facts (map number zs) (world_in (sizes q.facts s) m n vs st).memory) g.contract.decreases) ≡ t → Follows (Runs here gs (call cs to k l es) (at_state n vs st)) (with_eval (unless t (turn_by n (world_in (sizes q.facts s) m n vs st) (entered_by q.facts (λ f here w. run.returned f (deeper (run.body f) here (begun w))) g (here_in q.facts k (map number zs) (world_in (sizes q.facts s) m n vs st).memory g.contract here.granted) (map number zs)))) (λ v w. run.result_to q deeper s.variables here to v (in_world (at_state n vs st) w)))
-      lower_by asked (Some x) h =
-          goes_so (seg.not_lower asks found (ap (λ ws. required q.facts l (at_entry q.facts ws (world_in (sizes q.facts s) m n vs st).memory) g.contract) same ∙ asked)
-          (ap (λ ws. decreased q.facts l here k (measure_of q.facts (at_entry q.facts ws (world_in (sizes q.facts s) m n vs st).memory) g.contract.decreases)) same ∙ h))
-      lower_by asked None h = on_bool (call_inside q.facts gs (granted_in q.facts (at_entry q.facts (map number zs) (world_in (sizes q.facts s) m n vs st).memory) (count m.blocks) (parts_of g.contract)))
-          (λ inside. result_follows f low here gs agrees to cs k l es g found results n vs st zs same asks asked h inside (turn_by n (world_in (sizes q.facts s) m n vs st) (entered_by q.facts (λ f here w. run.returned f (deeper (run.body f) here (begun w))) g (here_in q.facts k (map number zs) (world_in (sizes q.facts s) m n vs st).memory g.contract here.granted) (map number zs)))
-          (turn_called q fits m good reached none_fails deeper keeps deep s here gs agrees f st fit scoped k g found among zs fits_args l asked inside n vs))
-          (λ outside. goes_wrong _ (seg.call_outside asks found (ap (λ ws. required q.facts l (at_entry q.facts ws (world_in (sizes q.facts s) m n vs st).memory) g.contract) same ∙ asked)
-          (ap (λ ws. decreased q.facts l here k (measure_of q.facts (at_entry q.facts ws (world_in (sizes q.facts s) m n vs st).memory) g.contract.decreases)) same ∙ h)
-          (ap (λ ws. call_inside q.facts gs (granted_in q.facts (at_entry q.facts ws (world_in (sizes q.facts s) m n vs st).memory) (count m.blocks) (parts_of g.contract))) same ∙ outside)))
-      asked_by : (t : Option Stop) → required q.facts l (at_entry q.facts (map number zs) (world_in (sizes q.facts s) m n vs st).memory) g.contract ≡ t
-          → Follows (Runs here gs (call cs to k l es) (at_state n vs st)) (with_eval (unless t (unless (decreased q.facts l here k (measure_of q.facts (at_entry q.facts (map number zs) (world_in (sizes q.facts s) m n vs st).memory) g.contract.decreases)) (turn_by n (world_in (sizes q.facts s) m n vs st) (entered_by q.facts (λ f here w. run.returned f (deeper (run.body f) here (begun w))) g (here_in q.facts k (map number zs) (world_in (sizes q.facts s) m n vs st).memory g.contract here.granted) (map number zs))))) (λ v w. run.result_to q deeper s.variables here to v (in_world (at_state n vs st) w)))
-      asked_by (Some x) h = goes_so (seg.not_required asks found (ap (λ ws. required q.facts l (at_entry q.facts ws (world_in (sizes q.facts s) m n vs st).memory) g.contract) same ∙ h))
-      asked_by None h = lower_by h (decreased q.facts l here k (measure_of q.facts (at_entry q.facts (map number zs) (world_in (sizes q.facts s) m n vs st).memory) g.contract.decreases)) refl
+        go : (zs : List ℤ) → run.totals_in q no_deeper s.variables (at_state n vs st) es ≡ map number zs → AreOf q.facts g.variables g.params zs
+            → Asks (is_met_in q.facts s.variables (at_state n vs st).temps (at_state n vs st).world es) cs None
+            → Follows (Runs here gs (call cs to k l es) (at_state n vs st))
+            (with_eval (run.calls q deeper here k l (run.totals_in q deeper s.variables (at_state n vs st) es) (world_in (sizes q.facts s) m n vs st)) (λ v w. run.result_to q deeper s.variables here to v (in_world (at_state n vs st) w)))
+        go zs same fits_args asks =
+            subst (λ ws. Follows (Runs here gs (call cs to k l es) (at_state n vs st)) (with_eval (run.calls q deeper here k l ws (world_in (sizes q.facts s) m n vs st)) (λ v w. run.result_to q deeper s.variables here to v (in_world (at_state n vs st) w)))) (sym same)
+            (subst (λ o. Follows (Runs here gs (call cs to k l es) (at_state n vs st))
+            (with_eval (found_by q.facts (λ f here w. run.returned f (deeper (run.body f) here (begun w))) here k l o (map number zs) (world_in (sizes q.facts s) m n vs st)) (λ v w. run.result_to q deeper s.variables here to v (in_world (at_state n vs st) w)))) (sym found)
+            (asked_by (required q.facts l (at_entry q.facts (map number zs) (world_in (sizes q.facts s) m n vs st).memory) g.contract) refl)) where
+              lower_by : required q.facts l (at_entry q.facts (map number zs) (world_in (sizes q.facts s) m n vs st).memory) g.contract ≡ None → (t : Option Stop)
+                  → decreased q.facts l here k (measure_of q.facts (at_entry q.facts (map number zs) (world_in (sizes q.facts s) m n vs st).memory) g.contract.decreases) ≡ t → Follows (Runs here gs (call cs to k l es) (at_state n vs st)) (with_eval (unless t (turn_by n (world_in (sizes q.facts s) m n vs st) (entered_by q.facts (λ f here w. run.returned f (deeper (run.body f) here (begun w))) g (here_in q.facts k (map number zs) (world_in (sizes q.facts s) m n vs st).memory g.contract here.granted) (map number zs)))) (λ v w. run.result_to q deeper s.variables here to v (in_world (at_state n vs st) w)))
+              lower_by asked (Some x) h =
+                  goes_so (seg.not_lower asks found (ap (λ ws. required q.facts l (at_entry q.facts ws (world_in (sizes q.facts s) m n vs st).memory) g.contract) same ∙ asked)
+                  (ap (λ ws. decreased q.facts l here k (measure_of q.facts (at_entry q.facts ws (world_in (sizes q.facts s) m n vs st).memory) g.contract.decreases)) same ∙ h))
+              lower_by asked None h = on_bool (call_inside q.facts gs (granted_in q.facts (at_entry q.facts (map number zs) (world_in (sizes q.facts s) m n vs st).memory) (count m.blocks) (parts_of g.contract)))
+                  (λ inside. result_follows f low here gs agrees to cs k l es g found results n vs st zs same asks asked h inside (turn_by n (world_in (sizes q.facts s) m n vs st) (entered_by q.facts (λ f here w. run.returned f (deeper (run.body f) here (begun w))) g (here_in q.facts k (map number zs) (world_in (sizes q.facts s) m n vs st).memory g.contract here.granted) (map number zs)))
+                  (turn_called q fits m good reached none_fails deeper keeps deep s here gs agrees f st fit scoped k g found among zs fits_args l asked inside n vs))
+                  (λ outside. goes_wrong _ (seg.call_outside asks found (ap (λ ws. required q.facts l (at_entry q.facts ws (world_in (sizes q.facts s) m n vs st).memory) g.contract) same ∙ asked)
+                  (ap (λ ws. decreased q.facts l here k (measure_of q.facts (at_entry q.facts ws (world_in (sizes q.facts s) m n vs st).memory) g.contract.decreases)) same ∙ h)
+                  (ap (λ ws. call_inside q.facts gs (granted_in q.facts (at_entry q.facts ws (world_in (sizes q.facts s) m n vs st).memory) (count m.blocks) (parts_of g.contract))) same ∙ outside)))
+
+              asked_by : (t : Option Stop) → required q.facts l (at_entry q.facts (map number zs) (world_in (sizes q.facts s) m n vs st).memory) g.contract ≡ t
+                  → Follows (Runs here gs (call cs to k l es) (at_state n vs st)) (with_eval (unless t (unless (decreased q.facts l here k (measure_of q.facts (at_entry q.facts (map number zs) (world_in (sizes q.facts s) m n vs st).memory) g.contract.decreases)) (turn_by n (world_in (sizes q.facts s) m n vs st) (entered_by q.facts (λ f here w. run.returned f (deeper (run.body f) here (begun w))) g (here_in q.facts k (map number zs) (world_in (sizes q.facts s) m n vs st).memory g.contract here.granted) (map number zs))))) (λ v w. run.result_to q deeper s.variables here to v (in_world (at_state n vs st) w)))
+              asked_by (Some x) h = goes_so (seg.not_required asks found (ap (λ ws. required q.facts l (at_entry q.facts ws (world_in (sizes q.facts s) m n vs st).memory) g.contract) same ∙ h))
+              asked_by None h = lower_by h (decreased q.facts l here k (measure_of q.facts (at_entry q.facts (map number zs) (world_in (sizes q.facts s) m n vs st).memory) g.contract.decreases)) refl
 
   -- ---- statements
 
@@ -143,12 +144,13 @@ module _ (q : Program Steps) (fits : FitsProgram q) (m : Memory) (good : IsGood 
   then_follows here gs a ss c K R (goes_on d) (goes_so r) h next =
       subst (λ d. Follows (AllRun here gs (then_ a ss) c) (run.exec_all q deeper s.variables here ss d)) (sym h.same)
       (behind (run.exec_all q deeper s.variables here ss (at_state h.turns h.contents h.state)) (next h.turns h.contents h.state h.so)) where
-    first : Runs here gs a c (goes_on (at_state h.turns h.contents h.state))
-    first = subst (λ d. Runs here gs a c (goes_on d)) h.same r
-    behind : (o : Ending) → Follows (AllRun here gs ss (at_state h.turns h.contents h.state)) o → Follows (AllRun here gs (then_ a ss) c) o
-    behind o (goes_wrong x t) = goes_wrong x (seg.goes first t)
-    behind o (goes_so t) = goes_so (seg.goes first t)
-    behind o (spends t) = spends t
+        first : Runs here gs a c (goes_on (at_state h.turns h.contents h.state))
+        first = subst (λ d. Runs here gs a c (goes_on d)) h.same r
+
+        behind : (o : Ending) → Follows (AllRun here gs ss (at_state h.turns h.contents h.state)) o → Follows (AllRun here gs (then_ a ss) c) o
+        behind o (goes_wrong x t) = goes_wrong x (seg.goes first t)
+        behind o (goes_so t) = goes_so (seg.goes first t)
+        behind o (spends t) = spends t
   then_follows here gs a ss c K R (exits k d) (goes_so r) h next = goes_so (seg.stays r by_exit)
   then_follows here gs a ss c K R (returns v d) (goes_so r) h next = goes_so (seg.stays r by_return)
   then_follows here gs a ss c K R (stopped x) (goes_so r) h next = goes_so (seg.stays r by_stop)
@@ -171,15 +173,15 @@ module _ (q : Program Steps) (fits : FitsProgram q) (m : Memory) (good : IsGood 
         let both = and_parts (all_among reached a) (all_among reached b) among in
         asks_or (Follows (Runs here gs (branch cs e a b) (at_state n vs st))) cs _ _ (λ x asks. goes_so (seg.test_stops asks))
         (λ asks met. arms asks (run.total_in q deeper s.variables (at_state n vs st) e) refl (all_follow f low here gs agrees below deep_below a h.0 both.0 n vs st fit scoped) (all_follow f low here gs agrees below deep_below b h.1 both.1 n vs st fit scoped)) where
-      arms : Asks (is_met q.facts s.variables (at_state n vs st).temps (at_state n vs st).world e) cs None → (v : Value) → run.total_in q deeper s.variables (at_state n vs st) e ≡ v
-          → Follows (AllRun here gs a (at_state n vs st)) (run.exec_all q deeper s.variables here a (at_state n vs st))
-          → Follows (AllRun here gs b (at_state n vs st)) (run.exec_all q deeper s.variables here b (at_state n vs st))
-          → Follows (Runs here gs (branch cs e a b) (at_state n vs st)) (if is_nonzero v then run.exec_all q deeper s.variables here a (at_state n vs st) else run.exec_all q deeper s.variables here b (at_state n vs st))
-      arms asks v same first other = on_bool (is_nonzero v)
-          (λ t. subst (λ x. Follows (Runs here gs (branch cs e a b) (at_state n vs st)) (if x then run.exec_all q deeper s.variables here a (at_state n vs st) else run.exec_all q deeper s.variables here b (at_state n vs st))) (sym t)
-          (branch_follows here gs cs e a b (at_state n vs st) _ (λ o r. seg.first_arm asks (ap is_nonzero same ∙ t) r) first))
-          (λ t. subst (λ x. Follows (Runs here gs (branch cs e a b) (at_state n vs st)) (if x then run.exec_all q deeper s.variables here a (at_state n vs st) else run.exec_all q deeper s.variables here b (at_state n vs st))) (sym t)
-          (other_follows here gs cs e a b (at_state n vs st) _ (λ o r. seg.other_arm asks (ap is_nonzero same ∙ t) r) other))
+          arms : Asks (is_met q.facts s.variables (at_state n vs st).temps (at_state n vs st).world e) cs None → (v : Value) → run.total_in q deeper s.variables (at_state n vs st) e ≡ v
+              → Follows (AllRun here gs a (at_state n vs st)) (run.exec_all q deeper s.variables here a (at_state n vs st))
+              → Follows (AllRun here gs b (at_state n vs st)) (run.exec_all q deeper s.variables here b (at_state n vs st))
+              → Follows (Runs here gs (branch cs e a b) (at_state n vs st)) (if is_nonzero v then run.exec_all q deeper s.variables here a (at_state n vs st) else run.exec_all q deeper s.variables here b (at_state n vs st))
+          arms asks v same first other = on_bool (is_nonzero v)
+              (λ t. subst (λ x. Follows (Runs here gs (branch cs e a b) (at_state n vs st)) (if x then run.exec_all q deeper s.variables here a (at_state n vs st) else run.exec_all q deeper s.variables here b (at_state n vs st))) (sym t)
+              (branch_follows here gs cs e a b (at_state n vs st) _ (λ o r. seg.first_arm asks (ap is_nonzero same ∙ t) r) first))
+              (λ t. subst (λ x. Follows (Runs here gs (branch cs e a b) (at_state n vs st)) (if x then run.exec_all q deeper s.variables here a (at_state n vs st) else run.exec_all q deeper s.variables here b (at_state n vs st))) (sym t)
+              (other_follows here gs cs e a b (at_state n vs st) _ (λ o r. seg.other_arm asks (ap is_nonzero same ∙ t) r) other))
     statement_follows f low here gs agrees below deep_below (repeat l ss) h among n vs st fit scoped = on_bool (loop_inside q.facts (record here { granted = gs }) l (world_in (sizes q.facts s) m n vs st))
         (λ inside. head_follows q fits m good reached deeper deep s integers f low l ss h among here gs agrees below deep_below n vs st fit scoped inside
         (λ n vs st fit scoped. all_follow f l.declared (in_loop q.facts here l w) (own_loop q.facts (record here { granted = gs }) l w).granted (loop_agrees q.facts low here gs l w h.0 agrees below inside)
@@ -187,8 +189,8 @@ module _ (q : Program Steps) (fits : FitsProgram q) (m : Memory) (good : IsGood 
         (λ n vs st fit scoped. all_done q fits m good deeper keeps s integers f l.declared (in_loop q.facts here l w) (loop_below q.facts here l w low h.0 deep_below) ss h.2 n vs st fit scoped)
         None n vs st (kept_none q.facts s (in_loop q.facts here l w).granted (some_sets ss) (some_temps ss) f st fit scoped) first_time)
         (λ outside. goes_wrong _ (seg.set_outside outside)) where
-      w : World
-      w = world_in (sizes q.facts s) m n vs st
+          w : World
+          w = world_in (sizes q.facts s) m n vs st
     statement_follows f low here gs agrees below deep_below (around ss) h among n vs st fit scoped =
         block_follows here gs ss (at_state n vs st) _ (all_follow f low here gs agrees below deep_below ss h among n vs st fit scoped)
     statement_follows f low here gs agrees below deep_below (scope ys ss) h among n vs st fit scoped =
@@ -197,8 +199,8 @@ module _ (q : Program Steps) (fits : FitsProgram q) (m : Memory) (good : IsGood 
         let inner = scope_state q.facts s.variables (count m.blocks) ys vs st in
         let contents = scope_contents q.facts s.variables (count m.blocks) ys vs in
         let way : in_world (at_state n vs st) (entered q.facts s.variables ys (world_in (sizes q.facts s) m n vs st)) ≡ at_state n contents inner =
-            ap (in_world (at_state n vs st)) (enters_scope q.facts s.variables integers m n ys vs st (omega (arith, size)))
-            ∙ behind_same q fits m good deeper keeps s integers n n vs contents st inner begins.spares.temps in
+        ap (in_world (at_state n vs st)) (enters_scope q.facts s.variables integers m n ys vs st (omega (arith, size)))
+        ∙ behind_same q fits m good deeper keeps s integers n n vs contents st inner begins.spares.temps in
         scope_follows here gs ys ss (at_state n vs st) (entered q.facts s.variables ys (world_in (sizes q.facts s) m n vs st)) (opens q.facts s.variables integers ys (world_in (sizes q.facts s) m n vs st)) _
         (subst (λ c. Follows (AllRun here gs ss c) (run.exec_all q deeper s.variables here ss c)) (sym way) (all_follow (with_names ys f) low here gs agrees below deep_below ss h.1 among n contents inner begins.fit begins.scoped))
 

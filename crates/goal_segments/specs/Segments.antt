@@ -119,18 +119,15 @@ module _ (q : Program Steps) (xs : List Variable) where
 mutual
   pub data Seg (q : Program Steps) (xs : List Variable) : (here : Here) → Step → CoreWorld → Ending → Type 0 where
     single : {here : Here} {s : Step} {c : CoreWorld} {o : Ending} → is_single s ≡ true → run.exec q no_deeper xs here s c ≡ o → Seg q xs here s c o
-
     first_arm : {here : Here} {cs : List Check} {e : t.Value} {a b : Steps} {c : CoreWorld} {o : Ending} → Asks (is_met q.facts xs c.temps c.world e) cs None
         → is_nonzero (run.total_in q no_deeper xs c e) ≡ true → AllSeg q xs here a c o → Seg q xs here (branch cs e a b) c o
     other_arm : {here : Here} {cs : List Check} {e : t.Value} {a b : Steps} {c : CoreWorld} {o : Ending} → Asks (is_met q.facts xs c.temps c.world e) cs None
         → is_nonzero (run.total_in q no_deeper xs c e) ≡ false → AllSeg q xs here b c o → Seg q xs here (branch cs e a b) c o
     test_stops : {here : Here} {cs : List Check} {e : t.Value} {a b : Steps} {c : CoreWorld} {s : Stop} → Asks (is_met q.facts xs c.temps c.world e) cs (Some s)
         → Seg q xs here (branch cs e a b) c (stopped s)
-
     blocks : {here : Here} {ss : Steps} {c : CoreWorld} {o u : Ending} → AllSeg q xs here ss c o → BlockEnds o u → Seg q xs here (around ss) c u
     scopes : {here : Here} {ys : List ℕ} {ss : Steps} {c : CoreWorld} {w : World} {o : Ending} → Opened q.facts xs ys c.world w → AllSeg q xs here ss (in_world c w) o
         → Seg q xs here (scope ys ss) c (scope_end c.world.memory ys o)
-
     -- a loop: its set lies inside, its invariants hold where it is entered, and one pass keeps them and lowers its variant
     set_outside : {here : Here} {l : Loop} {ss : Steps} {c : CoreWorld} → loop_inside q.facts here l c.world ≡ false → Seg q xs here (repeat l ss) c (stopped (failed broken.assigns l.line))
     entry_fails : {here : Here} {l : Loop} {ss : Steps} {c : CoreWorld} {s : Stop} → loop_inside q.facts here l c.world ≡ true
@@ -148,7 +145,6 @@ mutual
         → AllSeg q xs (own_loop q.facts here l c.world) ss d (goes_on e)
         → broken.at_head q.facts (in_body q.facts (own_loop q.facts here l c.world) e.world) l (measure_of q.facts (in_body q.facts (own_loop q.facts here l c.world) d.world) l.variant) ≡ Some s
         → Seg q xs here (repeat l ss) c (stopped s)
-
     -- a call: its arguments, what it requires, its measure, and its set, which lies inside
     argument_stops : {here : Here} {cs : List Check} {to : Goal} {n l : ℕ} {es : t.Values} {c : CoreWorld} {s : Stop} → Asks (is_met_in q.facts xs c.temps c.world es) cs (Some s)
         → Seg q xs here (call cs to n l es) c (stopped s)

@@ -30,4 +30,3 @@ no_negative k t n o h = no_cell k o h
 
 pub clean_of : (p : Facts) (m : Memory) → IsWellFormed p m → IsClean m
 clean_of p m well k o h = well.elsewhere (pos k) o refl (λ c. on_bool (is_cell c m.blocks (pos k) o) (λ e. absurd (false≢true (sym h ∙ cell_before c m.blocks k o e))) (λ e. e))
-

@@ -1,0 +1,12 @@
+pub mod Below
+pub mod Truths
+pub mod Names
+pub mod MemoryPuts
+pub mod SameMaps
+pub mod Sorts
+pub mod Equalities
+pub mod Puts
+pub mod Lists
+pub mod Keeps
+pub mod One
+pub mod Stated

@@ -1,0 +1,9 @@
+pub mod Made
+pub mod Firsts
+pub mod Fitting
+pub mod Removed
+pub mod Told
+pub mod Naming
+pub mod Numbered
+pub mod Relating
+pub mod Witnessing

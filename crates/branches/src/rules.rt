@@ -1,8 +1,8 @@
 // What an expansion goes by.
-ghost use Rattle.std.specs.Prelude.{◌≡◌, ◌↔◌, List, map, All, IsTrue, OnOk, IfOk};
+ghost use Rattle.std.specs.Prelude.{◌≡◌, ◌↔◌, true, List, map, All, IsTrue, OnOk, IfOk};
 ghost use Rattle.qed_terms.specs.Tree.{Tree};
 ghost use Rattle.qed_terms.specs.Store.{KeepsOlder};
-ghost use Rattle.qed_terms.specs.Setting.{Setting};
+ghost use Rattle.qed_terms.specs.Setting.{Setting, is_regular};
 ghost use Rattle.qed_terms.specs.View.{view_setting};
 ghost use Rattle.branches.specs.Steps.{LeadsToOne, Tried};
 ghost use Rattle.branches.specs.Branch.{Branch};
@@ -35,7 +35,7 @@ pub trait BranchRules<S: TermStore> {
         ensures ready { OnOk result (ready self.new store.now) }
         ensures closed { IfOk result (λ answer. IsTrue answer ↔ closed (branch_of (S.tree store.now) branch.now)) };
 
-    /// The branch after the first change that applies; none where none does.
+    /// The branch after the first change that applies, in a regular setting; none where none does.
     fn change(
         &mut self,
         alloc: Global,
@@ -44,13 +44,14 @@ pub trait BranchRules<S: TermStore> {
         world: &Setting,
     ) -> Result<Option<IdBranch<S::Id>>, NoMemory>
         requires ready { ready self.old store.old }
+        requires regular { is_regular (view_setting world.now) ≡ true }
         requires held { BranchHeld (S.held store.old) branch.now }
         ensures ready { OnOk result (ready self.new store.new) }
         ensures older { OnOk result (KeepsOlder (S.held store.old) (S.held store.new) (S.tree store.old) (S.tree store.new)) }
         ensures held { IfOk result (MadeHeld (S.held store.new)) }
         ensures tried { IfOk result (λ made. Tried (change (view_setting world.now)) (branch_of (S.tree store.old) branch.now) (branch_made (S.tree store.new) made)) };
 
-    /// The formulas that a round adds to the branch.
+    /// The formulas that a round adds to the branch, in a regular setting.
     fn round(
         &mut self,
         alloc: Global,
@@ -59,6 +60,7 @@ pub trait BranchRules<S: TermStore> {
         world: &Setting,
     ) -> Result<List<S::Id>, NoMemory>
         requires ready { ready self.old store.old }
+        requires regular { is_regular (view_setting world.now) ≡ true }
         requires held { BranchHeld (S.held store.old) branch.now }
         ensures ready { OnOk result (ready self.new store.new) }
         ensures older { OnOk result (KeepsOlder (S.held store.old) (S.held store.new) (S.tree store.old) (S.tree store.new)) }

@@ -1,5 +1,6 @@
 // One turn of an expansion: each function is one step or, where that doesn't apply, the next function.
-ghost use Rattle.std.specs.Prelude.{◌≡◌, suc, OnOk, IfOk};
+ghost use Rattle.std.specs.Prelude.{◌≡◌, suc, true, OnOk, IfOk};
+ghost use Rattle.qed_terms.specs.Setting.{is_regular};
 ghost use Rattle.qed_terms.specs.Store.{KeepsOlder};
 ghost use Rattle.qed_terms.specs.View.{view_setting};
 ghost use Rattle.branches.specs.Expansion.{FromRound, FromSplit, FromChange, Turns, rules_of, stand};
@@ -63,6 +64,7 @@ fn round_turn<S: TermStore, R: BranchRules<S>>(
     world: &Setting,
 ) -> Result<Turned, NoMemory>
     requires ready { R.ready rules.old store.old }
+    requires regular { is_regular (view_setting world.now) ≡ true }
     requires held { BranchHeld (S.held store.old) task.now.at }
     requires todo { TasksHeld (S.held store.old) todo.old.items }
     ensures ready { OnOk result (R.ready rules.new store.new) }
@@ -100,6 +102,7 @@ fn split_turn<S: TermStore, R: BranchRules<S>>(
     world: &Setting,
 ) -> Result<Turned, NoMemory>
     requires ready { R.ready rules.old store.old }
+    requires regular { is_regular (view_setting world.now) ≡ true }
     requires held { BranchHeld (S.held store.old) task.now.at }
     requires todo { TasksHeld (S.held store.old) todo.old.items }
     ensures ready { OnOk result (R.ready rules.new store.new) }
@@ -131,6 +134,7 @@ fn change_turn<S: TermStore, R: BranchRules<S>>(
     world: &Setting,
 ) -> Result<Turned, NoMemory>
     requires ready { R.ready rules.old store.old }
+    requires regular { is_regular (view_setting world.now) ≡ true }
     requires held { BranchHeld (S.held store.old) task.now.at }
     requires todo { TasksHeld (S.held store.old) todo.old.items }
     ensures ready { OnOk result (R.ready rules.new store.new) }
@@ -167,6 +171,7 @@ pub fn turn<S: TermStore, R: BranchRules<S>>(
     world: &Setting,
 ) -> Result<Turned, NoMemory>
     requires ready { R.ready rules.old store.old }
+    requires regular { is_regular (view_setting world.now) ≡ true }
     requires held { BranchHeld (S.held store.old) task.now.at }
     requires todo { TasksHeld (S.held store.old) todo.old.items }
     ensures ready { OnOk result (R.ready rules.new store.new) }

@@ -1,5 +1,6 @@
 // The expansion of a formula: turns over a stack of branches.
 ghost use Rattle.std.specs.Prelude.{◌≡◌, false, true, List, [], ◌∷◌, map, All, OnOk, IfOk, IfErr};
+ghost use Rattle.qed_terms.specs.Setting.{is_regular};
 ghost use Rattle.qed_terms.specs.Store.{KeepsOlder};
 ghost use Rattle.qed_terms.specs.View.{view_setting};
 ghost use Rattle.branches.specs.Expansion.{Runs, rules_of, from_formula, all_closed};
@@ -53,6 +54,7 @@ pub fn run<S: TermStore, R: BranchRules<S>>(
     world: &Setting,
 ) -> Result<Expanded<S::Id>, NoMemory>
     requires ready { R.ready rules.old store.old }
+    requires regular { is_regular (view_setting world.now) ≡ true }
     requires held { S.held store.old start }
     ensures ready { OnOk result (R.ready rules.new store.new) }
     ensures older { OnOk result (KeepsOlder (S.held store.old) (S.held store.new) (S.tree store.old) (S.tree store.new)) }
@@ -97,6 +99,7 @@ pub fn expand<S: TermStore, R: BranchRules<S>>(
     world: &Setting,
 ) -> Result<Verdict, NoMemory>
     requires ready { R.ready rules.old store.old }
+    requires regular { is_regular (view_setting world.now) ≡ true }
     requires held { S.held store.old start }
     ensures ready { OnOk result (R.ready rules.new store.new) }
     ensures older { OnOk result (KeepsOlder (S.held store.old) (S.held store.new) (S.tree store.old) (S.tree store.new)) }
@@ -121,6 +124,7 @@ pub fn split_by<S: TermStore, R: BranchRules<S>>(
     world: &Setting,
 ) -> Result<List<IdBranch<S::Id>>, SplitEnd>
     requires ready { R.ready rules.old store.old }
+    requires regular { is_regular (view_setting world.now) ≡ true }
     requires held { S.held store.old start }
     ensures ready { OnOk result (R.ready rules.new store.new) }
     ensures older { OnOk result (KeepsOlder (S.held store.old) (S.held store.new) (S.tree store.old) (S.tree store.new)) }

@@ -1,6 +1,6 @@
 mod TurnedBits
 mod Bitwise
-mod Listing
+pub mod Listing
 mod Cells
 mod Holding
 pub mod Staying
@@ -11,7 +11,7 @@ mod Pointers
 mod Objects
 mod Results
 mod Operations
-mod Meaning
+pub mod Meaning
 mod Fitting
 mod FittingWords
 mod Places

@@ -7,4 +7,5 @@ mod made;
 mod stored;
 
 pub use laws::formulas_are_trees;
-pub use stored::{lift, lower};
+pub use made::Made;
+pub use stored::{lift, lower, lower_node};

@@ -26,8 +26,9 @@ pub fn lift<S: TermStore>(
     Ok(id)
 }
 
+/// The term or the formula that an id stands for.
 #[tactic(auto, using(crate::proofs::Nodes::node_laws))]
-fn lower_node<S: TermStore>(alloc: Global, store: &S, id: S::Id) -> Result<Made, NoMemory>
+pub fn lower_node<S: TermStore>(alloc: Global, store: &S, id: S::Id) -> Result<Made, NoMemory>
     requires { S.held store.now id }
     ensures { IfOk result (λ made. made_tree made ≡ S.tree store.now id) }
 {

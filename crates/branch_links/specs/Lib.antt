@@ -1,0 +1,3 @@
+pub mod BranchLinks
+pub mod Numbered
+pub mod Laws

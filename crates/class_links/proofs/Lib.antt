@@ -1,0 +1,3 @@
+pub mod Least
+pub mod Forming
+pub mod Stepping

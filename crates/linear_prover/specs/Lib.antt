@@ -1,0 +1,2 @@
+pub mod LiteralLinks
+pub mod Relations

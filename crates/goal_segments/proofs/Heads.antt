@@ -1,6 +1,6 @@
 -- What a run keeps makes states that a segment run may go on in: heads of loops, and worlds behind calls.
-use Rattle.std.proofs.Common.{◌≡◌, ℕ, zero, suc, ◌+◌, ◌<◌, ◌≤◌, ◌-◌, ℤ, pos, negsuc, Bool, true, false, ◌&&◌, ◌||◌, if◌then◌else◌, List, [], ◌∷◌, ◌++◌, map, length, Option, Some, None, is_some, slice_get, refl, sym, ap, ◌∙◌, subst, arith}
-use Rattle.std.specs.Prelude.{nat_lt, nat_le}
+use Rattle.std.proofs.Common.{◌≡◌, ℕ, zero, suc, ◌+◌, ◌<◌, ◌≤◌, ◌-◌, ℤ, pos, negsuc, Bool, true, false, ◌&&◌, ◌||◌, if◌then◌else◌, List, [], ◌∷◌, ◌++◌, map, length, Option, Some, None, is_some, slice_get, refl, sym, ap, ◌∙◌, subst, inl, inr, arith}
+use Rattle.std.specs.Prelude.{nat_lt, nat_le, ◌⊎◌}
 use Rattle.std.specs.List.{list_all}
 use Rattle.std.proofs.lemmas.Bool.{false≢true, and_parts, ltb-true, lt-ltb, le-leb, leb-true, leb-false}
 use Rattle.wp_base.specs.declared.kinds.CellKind.{CellKind}
@@ -72,13 +72,13 @@ module _ (p : Facts) (integers : list_all is_integer p.globals ≡ true) (m : Me
           same = when_true (nat_lt x (sizes p s).locals) _ _ (lt-ltb x (sizes p s).locals l);
           stays = λ h. ap (is_equal (pos 1)) (rises x l (sym (equal_is (pos 1) (at st (local_flag (sizes p s) x))
               (sym (ap is_set_by (when_true (nat_lt x (sizes p s).locals) (plain (held st (local_value (sizes p s) x)) (is_equal (pos 1) (at st (local_flag (sizes p s) x)))) unset (lt-ltb x (sizes p s).locals l))) ∙ h))));
-          fits = λ h. ap (λ c. is_value p m.blocks c (held after (local_value (sizes p s) x))) (cell_of_integer v.layout.cells is_plain.1) ∙ fit.locals x v e;
-          leads = λ h. refl;
+          fits = ap (λ c. is_value p m.blocks c (held after (local_value (sizes p s) x))) (cell_of_integer v.layout.cells is_plain.1) ∙ fit.locals x v e;
+          leads = refl;
         }
 
     -- ---- a loop's head
 
-    module _ (here : Here) (gs : List Granted) (l : Loop) (ss : Steps) (w : World) (f : ℕ → Bool) (free : (x : ℕ) → l.declared ≤ x → f x ≡ false)
+    module _ (here : Here) (gs : List Granted) (l : Loop) (ss : Steps) (w : World) (f : ℕ → Bool) (free : (x : ℕ) → l.declared ≤ x → (f x ≡ false) ⊎ (some_sets ss x ≡ false))
         (agrees : Agrees p (own_loop p (record here { granted = gs }) l w).granted (in_loop p here l w).granted) (st after : State) (scoped : IsScoped p s f st)
         (kept : Kept p s (in_loop p here l w).granted (some_sets ss) (some_temps ss) f st after) where
       head_cells : (k : CellKind) (b o : ℤ) → may_change (own_loop p (record here { granted = gs }) l w).granted k b o ≡ false → cell_in (sizes p s) m.cells after b o ≡ cell_in (sizes p s) m.cells st b o
@@ -90,9 +90,13 @@ module _ (p : Facts) (integers : list_all is_integer p.globals ≡ true) (m : Me
             ap number (kept.globals n (ltb-true n (sizes p s).globals t) (sym (agrees.globals n (ap (nat_lt n) (all_plain p.globals integers) ∙ t)) ∙ h))
         by false e = refl
 
-      -- what is declared inside of the loop isn't in scope at its head
+      -- what is declared inside of the loop isn't in scope at its head, and what is declared behind it isn't set there
+      same_by : (x : ℕ) → x < (sizes p s).locals → (f x ≡ false) ⊎ (some_sets ss x ≡ false) → Unchanged p s st after x
+      same_by x le (inl e) = let old = scoped x le e in let new = kept.scoped x le e in (new.0 ∙ sym old.0, new.1 ∙ sym old.1)
+      same_by x le (inr e) = kept.untouched x le e
+
       inner_same : (x : ℕ) → x < (sizes p s).locals → l.declared ≤ x → Unchanged p s st after x
-      inner_same x le d = let old = scoped x le (free x d) in let new = kept.scoped x le (free x d) in (new.0 ∙ sym old.0, new.1 ∙ sym old.1)
+      inner_same x le d = same_by x le (free x d)
 
       head_locals : (o : Option (List Tree)) → l.assigns ≡ o → (x : ℕ)
           → lets_at_head p (own_loop p (record here { granted = gs }) l w).granted ss x (own_regions o (own_loop p (record here { granted = gs }) l w).granted) ≡ false
@@ -116,7 +120,8 @@ module _ (p : Facts) (integers : list_all is_integer p.globals ≡ true) (m : Me
         blocks = same_blocks m.blocks;
         cells = head_cells;
         locals = head_locals l.assigns refl;
-        plain = λ x v e is. local_goes_on st after kept.fit (λ x le h. kept.rises x le h) x v e;
+        plain = λ x v e is may. local_goes_on st after kept.fit (λ x le h. kept.rises x le h) x v e;
+        inner = λ x d. local_same st after x (λ le. inner_same x le d);
         homes = λ x v e not_plain. absurd (false≢true (sym not_plain ∙ (and_parts v.is_plain (are_one_integer v.layout.cells) (listed_integer s.variables all x v e)).0));
         temporaries = λ n h. ap number (kept.temporaries n h);
       }

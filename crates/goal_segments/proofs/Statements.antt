@@ -13,14 +13,14 @@ use Rattle.c_runs.specs.Calls.{Eval, gives, stops, unless, turn_by, entered_by, 
 use Rattle.core_runs.specs.Run.{CoreWorld, Ending, goes_on, exits, returns, stopped, then_do, with_eval, in_world, scope_end, begun, block_end}
 use Rattle.rte_checks.specs.Checks.{Check}
 use Rattle.rte_checks.specs.Tests.{is_met}
-use Rattle.core_checks.specs.Tree.{Goal, nowhere, Step, set, store, start, call, branch, repeat, around, exit, give, claim, scope, Steps, end, then_}
+use Rattle.core_checks.specs.Tree.{Goal, nowhere, temporary, Step, set, store, start, call, branch, repeat, around, exit, give, claim, scope, Steps, end, then_}
 use Rattle.core_checks.specs.Run as run
 use Rattle.core_checks.specs.Run.{is_met_in}
 use Rattle.segments.specs.Segments.{Asks, stopped_in, by_exit, by_return, by_stop}
 use Rattle.plain_states.specs.Slots.{State, memory_in, world_in, core_in}
 use Rattle.plain_states.specs.Scopes.{is_integer, scope_state, scope_contents}
 use Rattle.plain_states.proofs.Scoping.{enters_scope}
-use Rattle.plain_runs.specs.Fitting.{IsGood, Shape, sizes, Fit, AreOf, with_names, Calls, for_nothing, for_result, FitsStep, FitsSteps, FitsProgram}
+use Rattle.plain_runs.specs.Fitting.{IsGood, Shape, sizes, Fit, AreOf, with_names, by_temporary, Calls, for_none, for_nothing, for_result, FitsStep, FitsSteps, FitsProgram}
 use Rattle.plain_runs.specs.Kept.{AllBelow, sets, temps, some_sets, some_temps, IsScoped, Kept, Returned, Comes}
 use Rattle.plain_runs.specs.Laws.{Keeps}
 use Rattle.plain_runs.proofs.Sets.{loop_below}
@@ -167,6 +167,8 @@ module _ (q : Program Steps) (fits : FitsProgram q) (m : Memory) (good : IsGood 
     statement_follows f low here gs agrees below deep_below (call cs to k l es) h among n vs st fit scoped = calls h.2 where
       calls : {to : Goal} → Calls q.facts s q.functions f low cs es h.0 to → Follows (Runs here gs (call cs to k l es) (at_state n vs st)) (run.exec q deeper s.variables here (call cs to k l es) (at_state n vs st))
       calls (for_nothing args) = call_follows f low here gs agrees nowhere cs k l es h.0 h.1 among (λ v c. refl) n vs st fit scoped (λ met. args m good n vs st fit met)
+      calls (for_none {n = i} args none within) =
+          call_follows f low here gs agrees (temporary i) cs k l es h.0 h.1 among (λ v c. result_same q fits.globals s integers here gs agrees deeper f low (s.temp_kind i) (temporary i) (by_temporary within refl) v c) n vs st fit scoped (λ met. args m good n vs st fit met)
       calls {to} (for_result {k = kind} args result receives) =
           call_follows f low here gs agrees to cs k l es h.0 h.1 among (λ v c. result_same q fits.globals s integers here gs agrees deeper f low kind to receives v c) n vs st fit scoped (λ met. args m good n vs st fit met)
     statement_follows f low here gs agrees below deep_below (branch cs e a b) h among n vs st fit scoped =

@@ -1,6 +1,6 @@
 -- Segment runs: a function's statements told step by step, of which its goals are made. A loop goes on in whatever state its annotations allow, and one pass of
 -- it is told; a call goes on in whatever state its contract allows. A single statement does what it does in a run, under the set in force.
-use Rattle.std.specs.Prelude.{◌≡◌, ℕ, zero, suc, Bool, true, false, ◌||◌, if◌then◌else◌, ℤ, pos, int_le, List, [], ◌∷◌, Option, Some, None, slice_get}
+use Rattle.std.specs.Prelude.{◌≡◌, ◌≤◌, ℕ, zero, suc, Bool, true, false, ◌||◌, if◌then◌else◌, ℤ, pos, int_le, List, [], ◌∷◌, Option, Some, None, slice_get}
 use Rattle.std.specs.List.{list_all}
 use Rattle.wp_base.specs.declared.kinds.CellKind.{CellKind}
 use Rattle.wp_base.specs.declared.kinds.CellKind.TheVariants as cell
@@ -53,14 +53,14 @@ pub record SameBlocks (t u : Table) : Type 0 where
   pub live : (b : ℤ) → block_at u b ≡ block_at t b
   pub more : int_le (count t) (count u) ≡ true
 
--- a local that no pointer leads to: what was set stays set, and holds a value of its kind
+-- A local that no pointer leads to and that may change: it holds a value of its kind, whether it is set or not, and what was set stays set.
 pub record LocalGoesOn (p : Facts) (t : Table) (v : Variable) (old new : Local) : Type 0 where
   pub held : Value
   pub is_set : Bool
   pub same : new ≡ plain held is_set
   pub stays : is_set_by old ≡ true → is_set ≡ true
-  pub fits : is_set ≡ true → is_value p t (scalar_of v.layout.cells) held ≡ true
-  pub leads : is_set ≡ true → leads_well held ≡ true
+  pub fits : is_value p t (scalar_of v.layout.cells) held ≡ true
+  pub leads : leads_well held ≡ true
 
 -- which locals a loop's set lets change: those that it names; without a set of its own those that its text sets
 abbrev pub lets_at_head : Facts → (own : List Granted) → (body : Steps) → (variable : ℕ) → Option (List Value) → Bool
@@ -73,13 +73,15 @@ own_regions None gs = None
 own_regions (Some ts) [] = None
 own_regions (Some ts) (g ∷ gs) = Some g.regions
 
--- The head of a loop that was entered in the first world, with this set in force inside.
+-- The head of a loop that was entered in the first world, with this set in force inside. What is declared inside of the loop isn't in scope there.
 pub record AtHead (p : Facts) (xs : List Variable) (inside : Here) (l : Loop) (ss : Steps) (c d : CoreWorld) : Type 0 where
   pub good : IsGood p d.world.memory
   pub blocks : SameBlocks c.world.memory.blocks d.world.memory.blocks
   pub cells : (k : CellKind) (b o : ℤ) → may_change inside.granted k b o ≡ false → d.world.memory.cells b o ≡ c.world.memory.cells b o
   pub locals : (x : ℕ) → lets_at_head p inside.granted ss x (own_regions l.assigns inside.granted) ≡ false → d.world.locals x ≡ c.world.locals x
-  pub plain : (x : ℕ) (v : Variable) → slice_get xs x ≡ Some v → v.is_plain ≡ true → LocalGoesOn p d.world.memory.blocks v (c.world.locals x) (d.world.locals x)
+  pub plain : (x : ℕ) (v : Variable) → slice_get xs x ≡ Some v → v.is_plain ≡ true
+      → lets_at_head p inside.granted ss x (own_regions l.assigns inside.granted) ≡ true → LocalGoesOn p d.world.memory.blocks v (c.world.locals x) (d.world.locals x)
+  pub inner : (x : ℕ) → l.declared ≤ x → d.world.locals x ≡ c.world.locals x
   pub homes : (x : ℕ) (v : Variable) → slice_get xs x ≡ Some v → v.is_plain ≡ false → d.world.locals x ≡ c.world.locals x
   pub temporaries : (n : ℕ) → some_temps ss n ≡ false → d.temps n ≡ c.temps n
 

@@ -1,5 +1,5 @@
 -- Each statement keeps what it doesn't set, and what the sets in force don't let change.
-use Rattle.std.proofs.Common.{◌≡◌, ℕ, ◌<◌, ℤ, Bool, true, false, List, [], map, Option, Some, None, refl, sym, ap, ◌∙◌, subst, arith}
+use Rattle.std.proofs.Common.{◌≡◌, ℕ, ◌<◌, ℤ, pos, Bool, true, false, List, [], map, Option, Some, None, refl, sym, ap, ◌∙◌, subst, arith}
 use Rattle.std.specs.Prelude.{◌==◌}
 use Rattle.std.specs.List.{list_all}
 use Rattle.wp_base.specs.declared.kinds.CellKind.{CellKind}
@@ -24,14 +24,14 @@ use Rattle.plain_states.specs.Slots.{State, at, temp_slot, with_temp_slot, memor
 use Rattle.plain_states.specs.Scopes.{is_integer, scope_state, scope_contents}
 use Rattle.plain_states.proofs.Puts.{changes_are_puts}
 use Rattle.plain_states.proofs.Scoping.{enters_scope}
-use Rattle.plain_runs.specs.Fitting.{IsGood, Shape, sizes, Fit, IsOf, LeadsTo, Stores, with_names, Receives, by_temporary, by_place, by_variable, Calls, for_nothing, for_result, FitsStep, FitsSteps, FitsProgram}
+use Rattle.plain_runs.specs.Fitting.{IsGood, Shape, sizes, Fit, IsOf, LeadsTo, Stores, with_names, Receives, by_temporary, by_place, by_variable, Calls, for_none, for_nothing, for_result, FitsStep, FitsSteps, FitsProgram}
 use Rattle.plain_runs.specs.Kept.{is_local, goal_sets, sets, some_sets, goal_temp, temps, some_temps, AllBelow, IsScoped, Kept, IsResult, Returned}
 use Rattle.plain_runs.specs.Laws.{Keeps}
 use Rattle.plain_runs.proofs.Cells.{clean_of}
 use Rattle.plain_runs.proofs.Sets.{loop_globals, loop_locals, loop_below}
 use Rattle.plain_runs.proofs.Keeping.{first_false, second_false, kept_none, kept_more, file_of, block_comes}
 use Rattle.plain_runs.proofs.Writes.{temp_kept}
-use Rattle.plain_runs.proofs.Scopes.{enters}
+use Rattle.plain_runs.proofs.Scopes.{zero_of, enters}
 use Rattle.plain_runs.proofs.Objects.{stores, takes}
 use Rattle.plain_runs.proofs.Evals.{Given, call_given}
 use Rattle.plain_runs.proofs.Endings.{Ends, asked_ends, ends_more, ends_after, ends_then, ends_unless, ends_if, ends_pass, ends_scope}
@@ -116,6 +116,15 @@ module _ (q : Program Steps) (fits : FitsProgram q) (m : Memory) (good : IsGood 
       (λ v n' vs' after kept is.
       subst (λ c. Done here (goal_sets to) (goal_temp to) f after (run.result_to q deeper s.variables here to v c)) (sym (behind_same n n' vs vs' st after (λ i. kept.temporaries i refl)))
       (result_done here f low below kind to receives n' vs' after kept.fit kept.scoped v (subst (λ r. IsResult q.facts r v) result is)))))
+  call_done here f low below cs to k l es g found (for_none {n = i} args none within) n vs st fit scoped =
+      asked_ends (Done here (goal_sets (temporary i)) (goal_temp (temporary i)) f st) (λ u l. tt) cs _ _ (λ met.
+      let zs = args m good n vs st fit met in
+      subst (λ ws. Done here (goal_sets (temporary i)) (goal_temp (temporary i)) f st (with_eval (run.calls q deeper here k l ws (world_in (sizes q.facts s) m n vs st)) (λ v w. run.result_to q deeper s.variables here (temporary i) v (in_world (at_state n vs st) w)))) (sym zs.1)
+      (eval_done here (goal_sets (temporary i)) (goal_temp (temporary i)) f g.result n vs st (run.calls q deeper here k l (map number zs.0) (world_in (sizes q.facts s) m n vs st)) _
+      (call_given q fits m good deeper keeps s here f st fit scoped k g found zs.0 zs.2 l n vs)
+      (λ v n' vs' after kept is.
+      subst (λ c. Done here (goal_sets (temporary i)) (goal_temp (temporary i)) f after (run.result_to q deeper s.variables here (temporary i) v c)) (sym (behind_same n n' vs vs' st after (λ i. kept.temporaries i refl)))
+      (result_done here f low below (s.temp_kind i) (temporary i) (by_temporary within refl) n' vs' after kept.fit kept.scoped v (pos 0, subst (λ r. IsResult q.facts r v) none is, zero_of q.facts.model (s.temp_kind i))))))
 
   -- an assignment
   store_done : (here : Here) (f : ℕ → Bool) (cs : List Check) (type : CoreType) (l : ℕ) (path : Path) (es : tree.Values) (k : Kind) → LeadsTo q.facts s f path k → Stores q.facts s cs type path es k

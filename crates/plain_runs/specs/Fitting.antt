@@ -19,6 +19,7 @@ use Rattle.rte_checks.specs.Checks.{Check}
 use Rattle.rte_checks.specs.Tests.{total, totals, is_met}
 use Rattle.core_checks.specs.Tree.{Goal, nowhere, temporary, place, variable as to_variable, Step, set, store, start, call, branch, repeat, around, exit, give, claim, scope, Steps, end, then_}
 use Rattle.core_checks.specs.Run.{is_met_in, place_test, way_values, stored_value}
+use Rattle.plain_runs.specs.Touched.{some_sets}
 use Rattle.plain_states.specs.Slots.{State, Sizes, sizes_of, at, value_slot, flag_slot, local_value, temp_slot, temps_in, world_in}
 use Rattle.plain_states.specs.Scopes.{is_integer, kind_of}
 
@@ -126,11 +127,14 @@ module _ (p : Facts) (s : Shape) where
 
   module _ (functions : ℕ → Option (Function Steps)) where
     pub data Calls (in_scope : ℕ → Bool) (low : ℕ) (cs : List Check) (es : t.Values) (f : Function Steps) : Goal → Type 0 where
+      -- a function without result gives what is of no use
+      for_none : {n : ℕ} → GiveAll cs es f.variables f.params → f.result ≡ None → n < s.temporaries → Calls in_scope low cs es f (temporary n)
       for_nothing : GiveAll cs es f.variables f.params → Calls in_scope low cs es f nowhere
       for_result : {to : Goal} {k : Kind} → GiveAll cs es f.variables f.params → f.result ≡ Some (cell.Of k) → Receives in_scope low k to
           → Calls in_scope low cs es f to
 
-    -- `low`: variables from this number on are declared in the loops around
+    -- `low`: variables from this number on are declared in the loops around. A block makes its variables where it is entered, so one that is declared
+    -- behind a loop may be there in it; it isn't set there.
     abbrev mutual
       pub FitsStep : (in_scope : ℕ → Bool) → (low : ℕ) → Step → Type 0
       FitsStep f low (set cs n e) = (n < s.temporaries) × Gives cs e (s.temp_kind n)
@@ -138,7 +142,7 @@ module _ (p : Facts) (s : Shape) where
       FitsStep f low (start cs x e) = (k : Kind) × Takes f low x k × Gives cs e k
       FitsStep f low (call cs to n l es) = (g : Function Steps) × (functions n ≡ Some g) × Calls f low cs es g to
       FitsStep f low (branch cs e a b) = FitsSteps f low a × FitsSteps f low b
-      FitsStep f low (repeat l ss) = (low ≤ l.declared) × ((x : ℕ) → l.declared ≤ x → f x ≡ false) × FitsSteps f l.declared ss
+      FitsStep f low (repeat l ss) = (low ≤ l.declared) × ((x : ℕ) → l.declared ≤ x → (f x ≡ false) ⊎ (some_sets ss x ≡ false)) × FitsSteps f l.declared ss
       FitsStep f low (around ss) = FitsSteps f low ss
       FitsStep f low (exit k) = Unit {0}
       FitsStep f low (give cs None) = s.result ≡ None

@@ -15,45 +15,16 @@ use Rattle.core_runs.specs.Run.{CoreWorld, Ending, goes_on, exits, returns, stop
 use Rattle.core_checks.specs.Tree.{Goal, nowhere, temporary, place, variable as to_variable, Step, set, store, start, call, branch, repeat, around, exit, give, claim, scope, Steps, end, then_}
 use Rattle.plain_states.specs.Slots.{State, at, value_slot, flag_slot, local_value, local_flag, temp_slot, core_in}
 use Rattle.plain_states.specs.Scopes.{kind_of}
+pub use Rattle.plain_runs.specs.Touched.{is_local, goal_sets, sets, some_sets}
 use Rattle.plain_runs.specs.Fitting.{Shape, sizes, IsFlag, Fit}
 
--- ---- what a text sets
-
-abbrev pub is_local : Root → (variable : ℕ) → Bool
-is_local (root.Variable (variable.Local y)) x = y == x
-is_local r x = false
-
-abbrev pub goal_sets : Goal → (variable : ℕ) → Bool
-goal_sets nowhere x = false
-goal_sets (temporary n) x = false
-goal_sets (place cs type l path es) x = is_local path.root x
-goal_sets (to_variable y) x = y == x
-
-abbrev mutual
-  -- variables of the function
-  pub sets : Step → (variable : ℕ) → Bool
-  sets (store cs type l path es) x = is_local path.root x
-  sets (start cs y e) x = y == x
-  sets (call cs to f l es) x = goal_sets to x
-  sets (branch cs e a b) x = some_sets a x || some_sets b x
-  sets (repeat l ss) x = some_sets ss x
-  sets (around ss) x = some_sets ss x
-  sets (scope ys ss) x = some_sets ss x
-  sets (set cs n e) x = false
-  sets (exit k) x = false
-  sets (give cs e) x = false
-  sets (claim c) x = false
-
-  pub some_sets : Steps → (variable : ℕ) → Bool
-  some_sets end x = false
-  some_sets (then_ s ss) x = sets s x || some_sets ss x
+-- ---- temporaries that a text sets
 
 abbrev pub goal_temp : Goal → (temporary : ℕ) → Bool
 goal_temp (temporary m) n = m == n
 goal_temp to n = false
 
 abbrev mutual
-  -- temporaries
   pub temps : Step → (temporary : ℕ) → Bool
   temps (set cs m e) n = m == n
   temps (call cs to f l es) n = goal_temp to n

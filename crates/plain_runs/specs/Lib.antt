@@ -1,3 +1,4 @@
+pub mod Touched
 pub mod Fitting
 pub mod Kept
 pub mod Laws

@@ -103,7 +103,7 @@ fits = record {
           (
             (
               omega arith,
-              none_behind,
+              λ x h. inl (none_behind x h),
               (
                 leaves,
                 (

@@ -1,0 +1,10 @@
+pub mod Sorts
+pub mod Done
+pub mod Making
+pub mod Objects
+pub mod Pure
+pub mod Planned
+pub mod Singles
+pub mod Scopes
+pub mod Statements
+pub mod Whole

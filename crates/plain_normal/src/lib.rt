@@ -1,0 +1,6 @@
+//! Floor 5, goals: programs over plain integers, whose core programs are so too. Laws.
+#![tactic(auto)]
+
+mod laws;
+
+pub use laws::plain_programs_fit;

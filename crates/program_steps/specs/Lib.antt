@@ -1,0 +1,11 @@
+pub mod Leaves
+pub mod Stops
+pub mod Temporaries
+pub mod Terms
+pub mod Words
+pub mod Standing
+pub mod Typed
+pub mod Placed
+pub mod Functions
+pub mod Starting
+pub mod Laws

@@ -2,12 +2,12 @@
 ghost use Rattle.std.specs.Prelude.{◌≡◌, true, IfOk};
 ghost use Rattle.qed_terms.specs.Meaning.{World, Values, truth};
 ghost use Rattle.qed_terms.specs.Setting.{is_regular};
-ghost use Rattle.qed_terms.specs.View.{formula_tree, view_setting};
+ghost use Rattle.qed_terms.specs.View.{formula_tree, term_tree, view_setting};
 ghost use Rattle.qed_rules.specs.Rules.{step};
 ghost use Rattle.qed_simplify.specs.Normal.{EachHasNormal, Normal, NormalFreeNames, NormalIsOne, NormalIsSettled, NormalKeepsMeaning, NormalQuantifiers, PlainSettingsAreRegular, PlainWorldsSuit, SettingsSuit, Suits, plain};
 
-use crate::walk::normalise;
-use qed_terms::{Formula, Setting};
+use crate::walk::{normalise, normalise_term};
+use qed_terms::{Formula, Setting, Term};
 use std::alloc::Global;
 use wp_base::{List, NoMemory};
 
@@ -19,6 +19,15 @@ pub fn normal(alloc: Global, formula: &Formula, world: &Setting) -> Result<Formu
     ensures same { IfOk result (λ r. (w : World) → Suits (view_setting world.now) w → (env : Values) → truth w env (formula_tree r) ≡ truth w env (formula_tree formula.now)) }
 {
     let normal = normalise(alloc, world, formula)?;
+    Ok(normal)
+}
+
+/// The normal form of a term, in the same way.
+pub fn normal_term(alloc: Global, term: &Term, world: &Setting) -> Result<Term, NoMemory>
+    requires { is_regular (view_setting world.now) ≡ true }
+    ensures { IfOk result (λ r. Normal (step (view_setting world.now)) (term_tree term.now) (term_tree r)) }
+{
+    let normal = normalise_term(alloc, world, term)?;
     Ok(normal)
 }
 

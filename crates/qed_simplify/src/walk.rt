@@ -17,9 +17,10 @@ use qed_terms::{Formula, Setting, Term};
 use std::alloc::Global;
 use wp_base::{List, NoMemory, Str};
 
+/// The normal form of a term in a setting.
 #[cycle(normalise)]
 #[tactic(auto, using(qed_terms::proofs::Equations::tree_laws))]
-fn normalise_term(alloc: Global, world: &Setting, term: &Term) -> Result<Term, NoMemory>
+pub fn normalise_term(alloc: Global, world: &Setting, term: &Term) -> Result<Term, NoMemory>
     requires { is_regular (view_setting world.now) ≡ true }
     ensures { IfOk result (λ normal. Normal (step (view_setting world.now)) (term_tree term.now) (term_tree normal)) }
 {

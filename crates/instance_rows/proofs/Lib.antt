@@ -1,0 +1,11 @@
+pub mod Below
+pub mod Tests
+pub mod Loads
+pub mod Blocks
+pub mod Conversions
+pub mod Quotients
+pub mod Unfolded
+pub mod Foralls
+pub mod Orders
+pub mod Rounds
+pub mod Stated

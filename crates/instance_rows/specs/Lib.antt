@@ -1,0 +1,9 @@
+pub mod Rows
+pub mod PairRows
+pub mod Calls
+pub mod Occurrences
+pub mod Accesses
+pub mod Triggers
+pub mod Candidates
+pub mod Round
+pub mod Laws

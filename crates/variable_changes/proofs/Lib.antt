@@ -1,0 +1,4 @@
+pub mod Firsts
+pub mod Memories
+pub mod Equations
+pub mod Replaced

@@ -1,3 +1,4 @@
 pub mod FormulaPasses
 pub mod RelationPasses
 pub mod TermPasses
+mod Marked

@@ -1,3 +1,4 @@
 pub mod Passes
 pub mod Rules
 pub mod View
+pub mod Marked

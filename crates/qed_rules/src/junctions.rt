@@ -1,12 +1,14 @@
 // Junctions, `and` and `or`, of formulas that are in normal form.
-ghost use Rattle.std.specs.Prelude.{◌≡◌, Bool, List, [], ◌∷◌, ◌++◌, map, option_map, if◌then◌else◌, IfOk, OnOk};
+ghost use Rattle.std.specs.Prelude.{◌≡◌, false, slice_index_or, Bool, List, [], ◌∷◌, ◌++◌, map, option_map, if◌then◌else◌, IfOk, OnOk};
 ghost use Rattle.qed_terms.specs.Tree.{list_of, kids_in, not_of};
 ghost use Rattle.qed_terms.specs.View.{formula_tree};
-ghost use Rattle.qed_rules.specs.Rules.{negated_relation, is_junction, is_truth_constant, has, among, among_some, flatten, drop_units, drop_repeats, is_opposed};
+ghost use Rattle.qed_rules.specs.Rules.{negated_relation, is_junction, is_truth_constant, has, flatten, drop_units, drop_repeats, is_opposed};
+ghost use Rattle.qed_rules.specs.Marked.{kept_by, kept_if, opposites};
 ghost use Rattle.qed_rules.specs.Passes.{unwrap_single, check_opposites, absorb_constants, normal_junction};
 
 use crate::constants::{is_truth_constant, truth_constant};
 use crate::relations::negated_relation;
+use formula_sets::{first_ones, have_common};
 use qed_terms::Formula;
 use std::alloc::Global;
 use wp_base::{List, NoMemory};
@@ -90,56 +92,48 @@ fn drop_units(alloc: Global, unit: bool, operands: List<Formula>) -> Result<List
     Ok(others)
 }
 
-fn is_among(formula: &Formula, operands: &[Formula]) -> bool
-    ensures { result ≡ among (formula_tree formula.now) (map formula_tree operands.now) }
+fn is_marked(marks: &[bool], at: usize) -> bool
+    ensures { result ≡ slice_index_or marks.now at false }
 {
-    for operand in operands {
-        if formula.is_same(operand) {
-            return true;
-        }
-    }
-    false
+    at < marks.len() && marks[at]
 }
 
-// Each operand where it stands first.
-fn drop_repeats(alloc: Global, operands: List<Formula>) -> Result<List<Formula>, NoMemory>
-    ensures { IfOk result (λ kept. map formula_tree kept ≡ drop_repeats [] (map formula_tree operands)) }
+// One more, where it is marked.
+#[tactic(auto, using(crate::proofs::Marked::kept_one))]
+fn keep_if(keep: bool, operand: Formula, kept: &mut List<Formula>) -> Result<(), NoMemory>
+    ensures { OnOk result (map formula_tree kept.new ≡ map formula_tree kept.old ++ kept_if keep (formula_tree operand)) }
+{
+    if keep {
+        kept.push(operand)?;
+    }
+    Ok(())
+}
+
+// Those that are marked.
+#[tactic(auto, using(crate::proofs::Marked::kept_more))]
+fn keep_marked(
+    alloc: Global,
+    operands: List<Formula>,
+    marks: &[bool],
+) -> Result<List<Formula>, NoMemory>
+    ensures { IfOk result (λ kept. map formula_tree kept ≡ kept_by marks.now (map formula_tree operands)) }
 {
     let mut kept = List::new(alloc);
+    let mut at = 0;
     for operand in operands.into_vec() {
-        if !is_among(&operand, kept.as_slice()) {
-            kept.push(operand)?;
-        }
+        keep_if(is_marked(marks, at), operand, &mut kept)?;
+        at += 1;
     }
     Ok(kept)
 }
 
-// Whether the `not` of an operand is among the operands.
-fn has_not(alloc: Global, operands: &[Formula], operand: &Formula) -> Result<bool, NoMemory>
-    ensures { IfOk result (λ found. found ≡ among (not_of (formula_tree operand.now)) (map formula_tree operands.now)) }
+// Each operand where it stands first.
+#[tactic(auto, using(crate::proofs::Marked::firsts_are_kept))]
+fn drop_repeats(alloc: Global, operands: List<Formula>) -> Result<List<Formula>, NoMemory>
+    ensures { IfOk result (λ kept. map formula_tree kept ≡ drop_repeats [] (map formula_tree operands)) }
 {
-    let negation = Formula::negation(alloc, operand.copy(alloc)?)?;
-    Ok(is_among(&negation, operands))
-}
-
-// Whether the negation of an operand, itself a relation, is among the operands.
-fn has_opposite(alloc: Global, operands: &[Formula], operand: &Formula) -> Result<bool, NoMemory>
-    ensures { IfOk result (λ found. found ≡ among_some (negated_relation (formula_tree operand.now)) (map formula_tree operands.now)) }
-{
-    match opposite(alloc, operand)? {
-        Some(formula) => Ok(is_among(&formula, operands)),
-        None => Ok(false),
-    }
-}
-
-// Whether the negation of an operand is among the operands.
-fn is_opposed(alloc: Global, operands: &[Formula], operand: &Formula) -> Result<bool, NoMemory>
-    ensures { IfOk result (λ opposed. opposed ≡ is_opposed (map formula_tree operands.now) (formula_tree operand.now)) }
-{
-    if has_not(alloc, operands, operand)? {
-        return Ok(true);
-    }
-    has_opposite(alloc, operands, operand)
+    let firsts = first_ones(alloc, operands.as_slice())?;
+    keep_marked(alloc, operands, firsts.as_slice())
 }
 
 // The negation of a relation that has one of its own.
@@ -161,16 +155,28 @@ fn opposite(alloc: Global, formula: &Formula) -> Result<Option<Formula>, NoMemor
     }
 }
 
+// The negation of each operand, and for a relation also that of its own form.
+fn opposites(alloc: Global, operands: &[Formula]) -> Result<List<Formula>, NoMemory>
+    ensures { IfOk result (λ others. map formula_tree others ≡ opposites (map formula_tree operands.now)) }
+{
+    let mut others = List::new(alloc);
+    for operand in operands {
+        others.push(Formula::negation(alloc, operand.copy(alloc)?)?)?;
+        if let Some(other) = opposite(alloc, operand)? {
+            others.push(other)?;
+        }
+    }
+    Ok(others)
+}
+
 // Whether some operand stands beside its negation.
+#[tactic(auto, using(crate::proofs::Marked::opposites_meet))]
 fn has_opposed(alloc: Global, operands: &[Formula]) -> Result<bool, NoMemory>
     ensures { IfOk result (λ opposed. opposed ≡ has (is_opposed (map formula_tree operands.now)) (map formula_tree operands.now)) }
 {
-    for operand in operands {
-        if is_opposed(alloc, operands, operand)? {
-            return Ok(true);
-        }
-    }
-    Ok(false)
+    let others = opposites(alloc, operands)?;
+    let found = have_common(alloc, others.as_slice(), operands)?;
+    Ok(found)
 }
 
 // The junction of operands; one stands alone, and none is the unit.

@@ -13,3 +13,4 @@ pub mod Rounding
 pub mod SumSteps
 pub mod TermForms
 pub mod Values
+mod TotalSteps

@@ -12,7 +12,7 @@ use Rattle.qed_linear.specs.declared.forms.LinForm.{LinForm}
 use Rattle.qed_linear.specs.declared.sums.WidePart.{WidePart}
 use Rattle.qed_terms.specs.Order.{tree_cmp}
 use Rattle.qed_linear.specs.Linear.{fits, Part, Lin, part, lin, number, at_order, cons_nonzero, add_part, add_parts, add, add_all, scale_parts, scale, is_integer, parts_fit, checked}
-use Rattle.qed_linear.specs.View.{part_of, parts_of, lin_of, wide_value, wide_part, wide_parts, signed_value, signed}
+use Rattle.qed_linear.specs.View.{part_of, parts_of, lin_of, wide_value, wide_part, wide_parts, signed_value, signed_parts, signed}
 use Rattle.qed_linear.proofs.Facts.{zero_is}
 use Rattle.qed_linear.proofs.Places.{one_off, take_one, map_append}
 
@@ -93,7 +93,7 @@ pass_end xs i a c k h =
 
 -- ---- forms
 
-add_parts_last : (ps : List Part) (p : Part) (qs : List Part) → add_parts (ps ++ p ∷ []) qs ≡ add_parts ps (add_part (p.atom) (p.times) qs)
+pub add_parts_last : (ps : List Part) (p : Part) (qs : List Part) → add_parts (ps ++ p ∷ []) qs ≡ add_parts ps (add_part (p.atom) (p.times) qs)
 add_parts_last [] p qs = refl
 add_parts_last (q ∷ ps) p qs = ap (add_part (q.atom) (q.times)) (add_parts_last ps p qs)
 
@@ -123,11 +123,7 @@ add_all_down xs i x s r k p e =
 
 -- ---- a form with its sign
 
-abbrev pub signed_parts : Bool → List Part → List Part
-signed_parts b [] = []
-signed_parts b (p ∷ ps) = part (p.atom) (signed_value b (p.times)) ∷ signed_parts b ps
-
-signed_append : (b : Bool) (ps qs : List Part) → signed_parts b (ps ++ qs) ≡ signed_parts b ps ++ signed_parts b qs
+pub signed_append : (b : Bool) (ps qs : List Part) → signed_parts b (ps ++ qs) ≡ signed_parts b ps ++ signed_parts b qs
 signed_append b [] qs = refl
 signed_append b (p ∷ ps) qs = ap (λ rs. part (p.atom) (signed_value b (p.times)) ∷ rs) (signed_append b ps qs)
 

@@ -1,2 +1,3 @@
 pub mod Linear
 pub mod View
+pub mod Totals

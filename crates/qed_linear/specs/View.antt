@@ -63,6 +63,10 @@ abbrev pub signed_value : Bool → ℤ → ℤ
 signed_value true z = negsuc 0 *ℤ z
 signed_value false z = z
 
+abbrev pub signed_parts : Bool → List Part → List Part
+signed_parts b [] = []
+signed_parts b (p ∷ ps) = part (p.atom) (signed_value b (p.times)) ∷ signed_parts b ps
+
 abbrev pub signed : Bool → Lin → Lin
 signed true f = scale (negsuc 0) f
 signed false f = f

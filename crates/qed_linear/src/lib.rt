@@ -4,10 +4,12 @@
 mod calls;
 mod divide;
 mod forms;
+mod keys;
 mod ordered;
 mod products;
 mod sums;
 mod terms;
+mod totals;
 mod wide;
 
 pub use calls::{add, of_lin, scale, to_lin};

@@ -1,10 +1,12 @@
 // Sums of linear forms, with numbers of any size on the way.
-ghost use Rattle.std.specs.Prelude.{◌≡◌, ◌+◌, ◌<◌, ◌≤◌, Bool, pos, negsuc, ◌+ℤ◌, List, ◌∷◌, ◌++◌, [], map, length, take, drop, get_or, option_map, IfOk, OnOk};
+ghost use Rattle.std.specs.Prelude.{◌≡◌, true, ◌+◌, ◌<◌, ◌≤◌, Bool, pos, negsuc, ◌+ℤ◌, List, ◌∷◌, ◌++◌, [], map, length, take, drop, get_or, option_map, IfOk, OnOk};
 ghost use Rattle.qed_terms.specs.View.{term_tree};
 ghost use Rattle.qed_linear.specs.Linear.{part, number, add, subtract, add_all, cons_nonzero, add_part, add_parts, scale, checked, fitting};
+ghost use Rattle.qed_linear.specs.Totals.{are_ordered, total_lin};
 ghost use Rattle.qed_linear.specs.View.{lin_of, parts_of, signed, signed_value, IsAddedAt, wide_value, wide_parts, wide_lin};
 
 use crate::forms::{LinForm, LinPart, is_integer, number};
+use crate::totals::{add_to_total, are_ordered, no_total, summed};
 use crate::wide::Wide;
 use qed_terms::Term;
 use std::alloc::Global;
@@ -65,7 +67,8 @@ fn add_part(parts: &mut Vec<WidePart>, atom: Term, times: Wide) -> Result<(), No
 
 // ---- forms
 
-fn push_wide(parts: &mut Vec<WidePart>, atom: Term, times: Wide) -> Result<(), NoMemory>
+/// One part more, behind the others.
+pub fn push_wide(parts: &mut Vec<WidePart>, atom: Term, times: Wide) -> Result<(), NoMemory>
     ensures { OnOk result (wide_parts parts.new.items ≡ wide_parts parts.old.items ++ part (term_tree atom) (wide_value times) ∷ []) }
 {
     parts.push(WidePart { atom, times })?;
@@ -80,7 +83,8 @@ pub fn push_part(parts: &mut Vec<LinPart>, atom: Term, times: i128) -> Result<()
     Ok(())
 }
 
-fn widen(value: i128, negative: bool) -> Wide
+/// A number, or its negative.
+pub fn widen(value: i128, negative: bool) -> Wide
     ensures { wide_value result ≡ signed_value negative value }
 {
     if negative {
@@ -156,6 +160,53 @@ fn fitting(alloc: Global, sum: WideForm) -> Result<Option<LinForm>, NoMemory>
     }
 }
 
+// The sum of two forms that are in order.
+fn sum_in_order<'a>(
+    alloc: Global,
+    form: &'a LinForm,
+    other: &'a LinForm,
+    negative: bool,
+) -> Result<WideForm, NoMemory>
+    requires { are_ordered (parts_of other.now.parts.items) ≡ true }
+    ensures { IfOk result (λ sum. wide_lin sum ≡ add (lin_of form.now) (signed negative (lin_of other.now))) }
+{
+    let mut total = no_total(alloc);
+    add_to_total(&mut total, other, negative)?;
+    add_to_total(&mut total, form, false)?;
+    let sum = summed(alloc, &total)?;
+    Ok(sum)
+}
+
+// A form, and another or its multiple by -1. Parts in order go through a table, others are put in one by one.
+fn signed_sum(
+    alloc: Global,
+    form: &LinForm,
+    other: &LinForm,
+    negative: bool,
+) -> Result<WideForm, NoMemory>
+    ensures { IfOk result (λ sum. wide_lin sum ≡ add (lin_of form.now) (signed negative (lin_of other.now))) }
+{
+    if are_ordered(other.parts.as_slice()) {
+        return sum_in_order(alloc, form, other, negative);
+    }
+    let sum = widen_form(alloc, other, negative)?;
+    add_form(alloc, sum, form)
+}
+
+// The sum of forms.
+fn sum_of<'a>(alloc: Global, forms: &'a [LinForm]) -> Result<WideForm, NoMemory>
+    ensures { IfOk result (λ sum. wide_lin sum ≡ add_all (map lin_of forms.now)) }
+{
+    let mut total = no_total(alloc);
+    let mut left = forms.len();
+    while left > 0 {
+        left -= 1;
+        add_to_total(&mut total, &forms[left], false)?;
+    }
+    let sum = summed(alloc, &total)?;
+    Ok(sum)
+}
+
 /// The sum of two forms, where its numbers fit.
 pub fn fitting_sum(
     alloc: Global,
@@ -164,8 +215,7 @@ pub fn fitting_sum(
 ) -> Result<Option<LinForm>, NoMemory>
     ensures { IfOk result (λ form. option_map lin_of form ≡ fitting (add (lin_of left.now) (lin_of right.now))) }
 {
-    let sum = widen_form(alloc, right, false)?;
-    let sum = add_form(alloc, sum, left)?;
+    let sum = signed_sum(alloc, left, right, false)?;
     fitting(alloc, sum)
 }
 
@@ -173,15 +223,7 @@ pub fn fitting_sum(
 pub fn add_all(alloc: Global, forms: &[LinForm]) -> Result<Option<LinForm>, NoMemory>
     ensures { IfOk result (λ form. option_map lin_of form ≡ checked (add_all (map lin_of forms.now))) }
 {
-    let mut sum = WideForm {
-        parts: Vec::new(alloc),
-        constant: Wide::of(0),
-    };
-    let mut left = forms.len();
-    while left > 0 {
-        left -= 1;
-        sum = add_form(alloc, sum, &forms[left])?;
-    }
+    let sum = sum_of(alloc, forms)?;
     narrow(alloc, sum)
 }
 
@@ -189,8 +231,7 @@ pub fn add_all(alloc: Global, forms: &[LinForm]) -> Result<Option<LinForm>, NoMe
 pub fn subtract(alloc: Global, form: &LinForm, less: &LinForm) -> Result<Option<LinForm>, NoMemory>
     ensures { IfOk result (λ difference. option_map lin_of difference ≡ checked (subtract (lin_of form.now) (lin_of less.now))) }
 {
-    let sum = widen_form(alloc, less, true)?;
-    let sum = add_form(alloc, sum, form)?;
+    let sum = signed_sum(alloc, form, less, true)?;
     narrow(alloc, sum)
 }
 

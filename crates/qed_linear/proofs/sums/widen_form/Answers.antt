@@ -3,8 +3,8 @@ use Rattle.std.specs.Int.{w128}
 use Rattle.std.proofs.lemmas.Int.{to_z-of_z}
 use Rattle.qed_terms.specs.View.{term_tree}
 use Rattle.qed_linear.specs.Linear.{lin}
-use Rattle.qed_linear.specs.View.{parts_of, wide_value, signed_value}
-use Rattle.qed_linear.proofs.SumSteps.{signed_parts, signed_is, signed_more}
+use Rattle.qed_linear.specs.View.{parts_of, wide_value, signed_value, signed_parts}
+use Rattle.qed_linear.proofs.SumSteps.{signed_is, signed_more}
 use Rattle.qed_linear.proofs.sums.widen_form.Goals as goal
 
 pub loop-part-preserved : goal.loop-part-preserved

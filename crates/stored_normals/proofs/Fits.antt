@@ -1,17 +1,16 @@
 -- What fits, by the heads of kids that are well formed.
-use Rattle.std.proofs.Common.{◌≡◌, ℕ, zero, suc, ◌+◌, ◌<◌, ◌≤◌, Bool, true, false, ◌&&◌, cond, List, [], ◌∷◌, map, drop, length, get_or, drop_of_length-le, refl, sym, ◌∙◌, ap, subst, arith}
+use Rattle.std.proofs.Common.{◌≡◌, ℕ, suc, ◌+◌, ◌<◌, ◌≤◌, Bool, true, false, ◌&&◌, cond, List, [], ◌∷◌, map, drop, length, get_or, drop_of_length-le, refl, sym, ◌∙◌, ap, arith}
 use Rattle.std.proofs.lemmas.List.{drop_more, at_drop_more, length-map}
-use Rattle.qed_terms.specs.declared.head.Sort.{Sort}
 use Rattle.qed_terms.specs.declared.head.Sort.TheVariants as sort
 use Rattle.qed_terms.specs.declared.head.Shape.{Shape}
 use Rattle.qed_terms.specs.declared.head.Shape.TheVariants as shape
 use Rattle.qed_terms.specs.declared.head.Head.{Head}
 use Rattle.qed_terms.specs.Names.{is_memory_name}
 use Rattle.qed_terms.specs.Store.{is_well_formed, over, place_of_head}
-use Rattle.qed_terms.specs.Tree.{Tree, node, Trees, trees_of, head_of}
+use Rattle.qed_terms.specs.Tree.{Tree, node, trees_of, head_of}
 use Rattle.qed_terms.specs.WellFormed.{Place, int, mem, each, fits, all_fit, may_stand, kid_places, kid_count, region_places}
 use Rattle.stored_normals.specs.declared.places.Wanted.{Wanted}
-use Rattle.stored_normals.specs.Places.{wanted, shape_count, region_count, each_fit, placed_fit}
+use Rattle.stored_normals.specs.Places.{wanted, region_count, each_fit, placed_fit}
 
 pub and_first : (p q : Bool) → p && q ≡ true → p ≡ true
 and_first true q e = refl

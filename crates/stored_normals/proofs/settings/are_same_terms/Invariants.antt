@@ -1,0 +1,6 @@
+use Rattle.std.proofs.Common.{◌≡◌, take}
+use Rattle.stored_normals.proofs.settings.are_same_terms.Given as goal
+
+-- those so far are the same
+abbrev pub invariant-loop-at : goal.invariant-loop-at
+invariant-loop-at l = take l.at l.left ≡ take l.at l.right

@@ -1,0 +1,4 @@
+pub mod Bare
+pub mod Going
+pub mod Kept
+pub mod Told

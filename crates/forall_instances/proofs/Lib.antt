@@ -1,0 +1,3 @@
+pub mod OpenNodes
+pub mod Parts
+pub mod AtTerms

@@ -1,0 +1,3 @@
+pub mod DrawnLaws
+pub mod HeadLaws
+pub mod KidLaws

@@ -6,11 +6,11 @@ use Rattle.term_sketches.specs.declared.sketch.Sketch.{Sketch}
 use Rattle.term_sketches.specs.Sketches.{sketch_tree, slots}
 use Rattle.drawn_instances.specs.Drawn.{AreDrawn}
 
-pub drawn_over : {Id : Type 0} (held : Id → Type 0) (tree : Id → Tree) (made ids : List Id) (sketches : List Sketch) (fs : List Tree)
-    → made ≡ ids → All held ids → map (sketch_tree (slots (map tree ids))) sketches ≡ fs → AreDrawn held tree made sketches fs
-drawn_over held tree made ids sketches fs e a d = record {
-  ids_held = All-same held made ids e a;
-  drawn = ap (λ is. map (sketch_tree (slots (map tree is))) sketches) e ∙ d;
+pub drawn_over : {Id : Type 0} (held : Id → Type 0) (tree : Id → Tree) (made given ids : List Id) (sketches : List Sketch) (fs : List Tree)
+    → made ≡ given → given ≡ ids → All held ids → map (sketch_tree (slots (map tree ids))) sketches ≡ fs → AreDrawn held tree made sketches fs
+drawn_over held tree made given ids sketches fs e g a d = record {
+  ids_held = All-same held made ids (e ∙ g) a;
+  drawn = ap (λ is. map (sketch_tree (slots (map tree is))) sketches) (e ∙ g) ∙ d;
 }
 
 pub none_drawn : {Id : Type 0} (held : Id → Type 0) (tree : Id → Tree) (ids : List Id) (sketches : List Sketch) (fs : List Tree)

@@ -1,3 +1,4 @@
 pub mod DrawnLaws
 pub mod HeadLaws
 pub mod KidLaws
+pub mod NumberLaws

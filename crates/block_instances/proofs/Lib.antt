@@ -1,0 +1,3 @@
+pub mod AllocLaws
+pub mod AskedLaws
+pub mod LayoutLaws

@@ -1,0 +1,10 @@
+pub mod Nodes
+pub mod ConditionLaws
+pub mod MemoryLaws
+pub mod TableLaws
+pub mod QuotientLaws
+pub mod OperatorLaws
+pub mod RangeLaws
+pub mod ConversionLaws
+pub mod NumberSteps
+pub mod EachLaws

@@ -1,0 +1,10 @@
+use Rattle.std.proofs.Common.{◌-ℤ◌, arith}
+use Rattle.std.proofs.lemmas.Int.{ints}
+use Rattle.node_instances.proofs.NumberSteps.{two_kept}
+use Rattle.node_instances.proofs.conversions.turn_below.Goals as goal
+
+pub returns : goal.returns
+returns c f =
+    let range = c.args.range in
+    let r = c.requires in
+    two_kept f _ (λ a b. a -ℤ b) range.low (range.many) (omega (arith, ints, r.low_from, r.low_to, r.many_from, r.many_to)) (omega (arith, ints, r.low_from, r.low_to, r.many_from, r.many_to)) (omega (arith, ints, r.low_from, r.low_to, r.many_from, r.many_to)) (c.number.ensures f)

@@ -1,0 +1,4 @@
+pub mod Formulas
+pub mod Quotients
+pub mod Ranges
+pub mod NodeRows

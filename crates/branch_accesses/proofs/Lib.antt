@@ -1,0 +1,4 @@
+pub mod NameLaws
+pub mod LoadLaws
+pub mod Gathered
+pub mod AskedLaws

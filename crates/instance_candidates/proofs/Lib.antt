@@ -1,0 +1,3 @@
+pub mod MeetingLaws
+pub mod GivenLaws
+pub mod OrderLaws

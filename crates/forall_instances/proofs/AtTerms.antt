@@ -1,6 +1,6 @@
 -- A `forall` by its parts, and at a term, from store to store.
 use Rattle.std.proofs.Common.{◌≡◌, ℕ, Bool, true, false, cond, ℤ, List, [], ◌∷◌, length, refl, sym, ◌∙◌, ap}
-use Rattle.std.specs.Prelude.{Option, Some, None}
+use Rattle.std.specs.Prelude.{Option, Some, None, option_map}
 use Rattle.qed_terms.specs.declared.head.Head.{Head}
 use Rattle.qed_terms.specs.declared.head.Head.TheVariants as h
 use Rattle.qed_terms.specs.declared.head.Sort.{Sort}
@@ -8,18 +8,24 @@ use Rattle.qed_terms.specs.declared.head.Sort.TheVariants as sort
 use Rattle.qed_terms.specs.Nodes.{kids_of}
 use Rattle.qed_terms.specs.Store.{KeepsOlder}
 use Rattle.qed_terms.specs.Tree.{Tree, node, Trees, stop, more, list_of, head_of}
-use Rattle.qed_linear.specs.Linear.{Lin, lin}
+use Rattle.qed_linear.specs.Linear.{Lin, to_lin, of_lin}
+use Rattle.qed_linear.specs.View.{lin_of}
 use Rattle.qed_substitution.specs.Substitution.{may_replace}
 use Rattle.branch_changes.specs.Givens.{may_put_at}
-use Rattle.instance_rows.specs.Triggers.{Quantified, quantified_at, at_term, instance_at, solved, times_in, without_name}
+use Rattle.instance_rows.specs.Triggers.{Quantified, quantified_at, at_term, instance_at, solved, term_where}
 use Rattle.forall_instances.specs.declared.foralls.IdForall.{IdForall}
 use Rattle.forall_instances.specs.Foralls.{forall_of, ForallHeld, forall_name}
-use Rattle.forall_instances.specs.Forms.{solved_by}
+use Rattle.forall_instances.specs.declared.forms.Beside.{Beside}
+use Rattle.forall_instances.specs.Forms.{IsApart, solved_by, term_by}
 
 -- ---- the term for which a name makes one form another
 
-pub solved_is : (may : ℤ → Bool) (x : List ℕ) (f beside g : Lin) (c : ℤ) (o : Option Lin) → c ≡ times_in x f.parts → beside ≡ lin (without_name x f.parts) f.constant → o ≡ solved_by (may c) c beside g → o ≡ solved may x f g
-solved_is may x f beside g c o e k w = w ∙ (λ i. solved_by (may (e i)) (e i) (k i) g)
+solved_is : (may : ℤ → Bool) (x : List ℕ) (f g : Lin) (b : Beside) → IsApart x f b → solved_by (may b.times) b.times (lin_of b.others) g ≡ solved may x f g
+solved_is may x f g b a = λ i. solved_by (may (a.times i)) (a.times i) (a.others i) g
+
+-- of two terms by their forms
+pub term_is : (may : ℤ → Bool) (x : List ℕ) (t u : Tree) (f g : Lin) (b : Beside) (o : Option Tree) → f ≡ to_lin t → g ≡ to_lin u → IsApart x f b → o ≡ term_by may b g → o ≡ term_where may x t u
+term_is may x t u f g b o e k a w = w ∙ ap (option_map of_lin) (solved_is may x f g b a) ∙ (λ i. option_map of_lin (solved may x (e i) (k i)))
 
 -- ---- the parts of a `forall`
 

@@ -5,10 +5,10 @@ ghost use Rattle.qed_terms.specs.declared.head.Sort.TheVariants as sorts;
 ghost use Rattle.qed_terms.specs.Operators.{is_equal, is_zero};
 ghost use Rattle.qed_terms.specs.View.{term_tree};
 ghost use Rattle.qed_terms.specs.WellFormed.{same_sort};
-ghost use Rattle.qed_linear.specs.Linear.{fits, lin};
+ghost use Rattle.qed_linear.specs.Linear.{fits};
 ghost use Rattle.qed_linear.specs.View.{lin_of, part_of, parts_of};
-ghost use Rattle.forall_instances.specs.Forms.{ArePartsOver, IsPartOver, may_pass, place_in, solved_by};
-ghost use Rattle.instance_rows.specs.Triggers.{divided, goes_into, goes_into_parts, is_nonzero, is_variable, times_in, without_name};
+ghost use Rattle.forall_instances.specs.Forms.{ArePartsOver, IsApart, IsPartOver, may_pass, place_in, solved_by};
+ghost use Rattle.instance_rows.specs.Triggers.{divided, goes_into, goes_into_parts, is_nonzero, is_variable};
 
 use qed_linear::{LinForm, LinPart, is_integer, subtract};
 use qed_terms::{Sort, Term};
@@ -73,8 +73,7 @@ fn place_in(name: &[u8], parts: &[LinPart]) -> usize
 
 /// Takes a form apart at a name.
 pub fn taken_apart(name: &[u8], form: LinForm) -> Beside
-    ensures times { result.times ≡ times_in name.now (parts_of form.parts.items) }
-    ensures others { lin_of result.others ≡ lin (without_name name.now (parts_of form.parts.items)) form.constant }
+    ensures { IsApart name.now (lin_of form) result }
 {
     let mut form = form;
     let at = place_in(name, form.parts.as_slice());

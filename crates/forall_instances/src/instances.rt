@@ -7,13 +7,16 @@ ghost use Rattle.qed_terms.specs.Tree.{Tree, at_most, less, or_of};
 ghost use Rattle.branch_changes.specs.Givens.{may_stand_for};
 ghost use Rattle.instance_rows.specs.Accesses.{access_to};
 ghost use Rattle.instance_rows.specs.Triggers.{at_term, call_to, instance_at, instance_by_access, instance_by_call};
+ghost use Rattle.qed_linear.specs.View.{lin_of};
 ghost use Rattle.forall_instances.specs.Foralls.{forall_of, ForallHeld};
+ghost use Rattle.forall_instances.specs.Forms.{may_pass, term_by};
 
 use crate::foralls::IdForall;
-use crate::forms::{Passes, is_same_name};
-use crate::terms::term_where;
+use crate::forms::{Beside, Passes, is_same_name};
+use crate::terms::{term_by, term_where};
 use branch_changes::IdGiven;
 use equality_variables::may_stand_for;
+use qed_linear::LinForm;
 use qed_terms::{FormOp, Head, Sort, TermStore};
 use std::alloc::Global;
 use stored_normals::fits_over;
@@ -191,6 +194,25 @@ fn is_same_kind(kind: CellKind, other: CellKind) -> bool
     ensures { result ≡ same_cell kind other }
 {
     kind == other
+}
+
+/// The instance of a `forall` at the term for which its name makes a form that was taken apart another form. Forms that are asked for often are made once so.
+pub fn instance_by_forms<S: TermStore>(
+    alloc: Global,
+    store: &mut S,
+    quantified: &IdForall<S::Id>,
+    which: Passes,
+    with_name: &Beside,
+    other: &LinForm,
+) -> Result<Option<S::Id>, NoMemory>
+    requires { ForallHeld (S.held store.old) quantified.now }
+    ensures older { OnOk result (KeepsOlder (S.held store.old) (S.held store.new) (S.tree store.old) (S.tree store.new)) }
+    ensures held { IfOk result (λ made. IfSome made (λ id. S.held store.new id)) }
+    ensures instance { IfOk result (λ made. option_map (S.tree store.new) made ≡ instance_at (forall_of (S.tree store.old) quantified.now) (term_by (may_pass which) with_name.now (lin_of other.now))) }
+{
+    let term = term_by(alloc, store, which, with_name, other)?;
+    let made = instance_at(alloc, store, quantified, term)?;
+    Ok(made)
 }
 
 /// The instance of a `forall` by an access in its body, to a cell of the kind `trigger` at `offset`, and one in the branch, to a cell of the kind `kind` at

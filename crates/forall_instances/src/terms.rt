@@ -4,10 +4,10 @@ ghost use Rattle.qed_terms.specs.Store.{KeepsOlder};
 ghost use Rattle.qed_ids.specs.Made.{made_tree};
 ghost use Rattle.qed_linear.specs.Linear.{of_lin, to_lin};
 ghost use Rattle.qed_linear.specs.View.{lin_of};
-ghost use Rattle.instance_rows.specs.Triggers.{solved, term_where};
-ghost use Rattle.forall_instances.specs.Forms.{may_pass};
+ghost use Rattle.instance_rows.specs.Triggers.{term_where};
+ghost use Rattle.forall_instances.specs.Forms.{may_pass, term_by};
 
-use crate::forms::{Passes, solved, taken_apart};
+use crate::forms::{Beside, Passes, solved, taken_apart};
 use qed_ids::{Made, lower_node};
 use qed_linear::{LinForm, form_of, into_term};
 use qed_terms::{Node, TermStore};
@@ -38,25 +38,6 @@ pub fn form_at<S: TermStore>(alloc: Global, store: &S, id: S::Id) -> Result<LinF
     Ok(form)
 }
 
-fn solved_at<S: TermStore>(
-    alloc: Global,
-    store: &S,
-    which: Passes,
-    name: &[u8],
-    with_name: S::Id,
-    other: S::Id,
-) -> Result<Option<LinForm>, NoMemory>
-    requires with_name { S.held store.now with_name }
-    requires other { S.held store.now other }
-    ensures { IfOk result (λ made. option_map lin_of made ≡ solved (may_pass which) name.now (to_lin (S.tree store.now with_name)) (to_lin (S.tree store.now other))) }
-{
-    let form = form_at(alloc, store, with_name)?;
-    let beside = taken_apart(name, form);
-    let there = form_at(alloc, store, other)?;
-    let made = solved(alloc, which, &beside, &there)?;
-    Ok(made)
-}
-
 // The term of a form.
 fn form_term<S: TermStore>(alloc: Global, store: &mut S, form: LinForm) -> Result<S::Id, NoMemory>
     ensures older { OnOk result (KeepsOlder (S.held store.old) (S.held store.new) (S.tree store.old) (S.tree store.new)) }
@@ -66,6 +47,28 @@ fn form_term<S: TermStore>(alloc: Global, store: &mut S, form: LinForm) -> Resul
     let term = into_term(alloc, form)?;
     let id = lift_node(alloc, store, Node::Term(&term))?;
     Ok(id)
+}
+
+/// The term for which the name makes the form that was taken apart the other one, where there is one.
+pub fn term_by<S: TermStore>(
+    alloc: Global,
+    store: &mut S,
+    which: Passes,
+    with_name: &Beside,
+    other: &LinForm,
+) -> Result<Option<S::Id>, NoMemory>
+    ensures older { OnOk result (KeepsOlder (S.held store.old) (S.held store.new) (S.tree store.old) (S.tree store.new)) }
+    ensures held { IfOk result (λ made. IfSome made (λ id. S.held store.new id)) }
+    ensures term { IfOk result (λ made. option_map (S.tree store.new) made ≡ term_by (may_pass which) with_name.now (lin_of other.now)) }
+{
+    let form = solved(alloc, which, with_name, other)?;
+    match form {
+        None => Ok(None),
+        Some(form) => {
+            let id = form_term(alloc, store, form)?;
+            Ok(Some(id))
+        }
+    }
 }
 
 /// The term for which the name makes the first term the other one, where there is one: the coefficient of the name passes and goes into all that is left,
@@ -84,12 +87,9 @@ pub fn term_where<S: TermStore>(
     ensures held { IfOk result (λ made. IfSome made (λ id. S.held store.new id)) }
     ensures term { IfOk result (λ made. option_map (S.tree store.new) made ≡ term_where (may_pass which) name.now (S.tree store.old with_name) (S.tree store.old other)) }
 {
-    let form = solved_at(alloc, &*store, which, name, with_name, other)?;
-    match form {
-        None => Ok(None),
-        Some(form) => {
-            let id = form_term(alloc, store, form)?;
-            Ok(Some(id))
-        }
-    }
+    let form = form_at(alloc, &*store, with_name)?;
+    let beside = taken_apart(name, form);
+    let there = form_at(alloc, &*store, other)?;
+    let made = term_by(alloc, store, which, &beside, &there)?;
+    Ok(made)
 }

@@ -1,0 +1,5 @@
+pub mod RegionLaws
+pub mod FrameLaws
+pub mod LayoutRow
+pub mod RangeRow
+pub mod PairLaws

@@ -28,7 +28,7 @@ fn is_truth(head: &Head) -> bool
 }
 
 /// Whether a formula is `true`.
-fn is_true<S: TermStore>(store: &S, id: S::Id) -> bool
+pub fn is_true<S: TermStore>(store: &S, id: S::Id) -> bool
     requires { S.held store.now id }
     ensures { result ≡ same true_tree (S.tree store.now id) }
 {

@@ -3,4 +3,4 @@
 
 mod additions;
 
-pub use additions::added;
+pub use additions::{added, is_true};

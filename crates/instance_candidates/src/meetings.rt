@@ -29,7 +29,7 @@ pub struct FormedLoad<I> {
     pub form: LinForm,
 }
 
-/// The form of the term of an id. A formula has none: the answer is then `NoMemory`, though memory may be left. No load that a store holds has one as its offset.
+/// The form of the term of an id. A formula has none: the answer is then `NoMemory`, though memory may be left. No load in a store has one as its offset.
 fn form_at<S: TermStore>(alloc: Global, store: &S, id: S::Id) -> Result<LinForm, NoMemory>
     requires { S.held store.now id }
     ensures { IfOk result (λ form. lin_of form ≡ to_lin (S.tree store.now id)) }

@@ -1,0 +1,4 @@
+pub mod HeadSorts
+pub mod BodyLaws
+pub mod TakerLaws
+pub mod CaseLaws

@@ -13,7 +13,7 @@ use Rattle.branch_accesses.proofs.Gathered.{nil_behind, take_one}
 use Rattle.pair_instances.specs.declared.pairs.PairRow.{PairRow}
 use Rattle.pair_instances.specs.declared.pairs.PairRow.TheVariants as r
 use Rattle.pair_instances.specs.Facts.{row_of_pair}
-use Rattle.pair_instances.specs.Rows.{begins, pair_row, row_after}
+use Rattle.pair_instances.specs.PairRows.{begins, pair_row, row_after}
 
 -- ---- a first node without formulas
 

@@ -1,4 +1,4 @@
 pub mod Facts
 pub mod Regions
 pub mod Formed
-pub mod Rows
+pub mod PairRows

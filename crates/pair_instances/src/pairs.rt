@@ -4,7 +4,7 @@ ghost use Rattle.qed_terms.specs.Store.{KeepsOlder};
 ghost use Rattle.instance_rows.specs.Occurrences.{at_each, at_pairs};
 ghost use Rattle.drawn_instances.specs.Drawn.{AreDrawn};
 ghost use Rattle.pair_instances.specs.Facts.{row_of_pair};
-ghost use Rattle.pair_instances.specs.Rows.{begins, pair_row, row_after};
+ghost use Rattle.pair_instances.specs.PairRows.{begins, pair_row, row_after};
 
 use crate::frames::frame_of_load;
 use crate::layouts::answer_of_layout;

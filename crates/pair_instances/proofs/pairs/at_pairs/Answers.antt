@@ -1,7 +1,7 @@
 use Rattle.std.proofs.Common.{map}
 use Rattle.qed_terms.proofs.Kept.{kept_over, kept_trees}
 use Rattle.drawn_instances.proofs.KidLaws.{kid_held}
-use Rattle.pair_instances.specs.Rows.{pair_row}
+use Rattle.pair_instances.specs.PairRows.{pair_row}
 use Rattle.pair_instances.proofs.PairLaws.{pairs_more}
 use Rattle.pair_instances.proofs.pairs.at_pairs.Goals as goal
 

@@ -1,7 +1,7 @@
 use Rattle.std.proofs.Common.{◌≡◌, ◌++◌, All, map, take}
 use Rattle.qed_terms.specs.Store.{KeepsOlder}
 use Rattle.instance_rows.specs.Occurrences.{at_pairs}
-use Rattle.pair_instances.specs.Rows.{pair_row}
+use Rattle.pair_instances.specs.PairRows.{pair_row}
 use Rattle.pair_instances.proofs.pairs.at_pairs.Given as goal
 
 -- what the row gives at the first nodes so far stands behind what was there

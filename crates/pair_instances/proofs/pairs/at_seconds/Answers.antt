@@ -3,7 +3,7 @@ use Rattle.qed_terms.proofs.Kept.{kept_over}
 use Rattle.drawn_instances.proofs.KidLaws.{kid_held}
 use Rattle.drawn_instances.specs.Drawn.{row_at}
 use Rattle.node_instances.proofs.EachLaws.{each_more}
-use Rattle.pair_instances.specs.Rows.{pair_row, row_after}
+use Rattle.pair_instances.specs.PairRows.{pair_row, row_after}
 use Rattle.pair_instances.proofs.PairLaws.{at_second}
 use Rattle.pair_instances.proofs.pairs.at_seconds.Goals as goal
 

@@ -1,7 +1,7 @@
 use Rattle.std.proofs.Common.{◌≡◌, ◌++◌, All, map, take}
 use Rattle.qed_terms.specs.Store.{KeepsOlder}
 use Rattle.instance_rows.specs.Occurrences.{at_each}
-use Rattle.pair_instances.specs.Rows.{pair_row, row_after}
+use Rattle.pair_instances.specs.PairRows.{pair_row, row_after}
 use Rattle.pair_instances.proofs.pairs.at_seconds.Given as goal
 
 -- what the row gives with the second nodes so far stands behind what was there

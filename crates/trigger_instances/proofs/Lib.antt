@@ -1,0 +1,5 @@
+pub mod Given
+pub mod Same
+pub mod Lists
+pub mod CallLaws
+pub mod AskedLaws

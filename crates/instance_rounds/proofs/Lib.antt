@@ -1,0 +1,4 @@
+pub mod StepLaws
+pub mod PartLaws
+pub mod GivenLaws
+pub mod RoundLaws

@@ -2,7 +2,7 @@
 use Rattle.std.proofs.Common.{◌≡◌, ℕ, true, false, List, [], sym, ap, ◌∙◌, subst}
 use Rattle.qed_terms.specs.declared.verdict.Verdict.{Verdict}
 use Rattle.qed_terms.specs.declared.verdict.Verdict.TheVariants as verdict
-use Rattle.qed_terms.specs.Setting.{Setting, is_regular, world_of}
+use Rattle.qed_terms.specs.Setting.{Setting, Valid, is_regular, world_of}
 use Rattle.qed_terms.specs.Order.{same}
 use Rattle.qed_terms.proofs.Total.{same_itself}
 use Rattle.qed_terms.specs.Tree.{Tree, true_tree, not_of}
@@ -29,15 +29,23 @@ are_sound = record {
 
 -- a goal whose normal form is `true`
 pub proved_at_once : (s : Setting) → is_regular s ≡ true → (fuel budget : ℕ) (goal normal : Tree) → Normal (step s) goal normal → normal ≡ true_tree → IsProverVerdict s fuel budget goal verdict.Proved
+unfolding IsProverVerdict
 proved_at_once s regular fuel budget goal normal n is =
     ends_are_verdicts IsClosed IsRound are_sound s regular (one_round s) fuel budget goal verdict.Proved (at_once (subst (Normal (step s) goal) is n))
 
 -- and any other
 pub proved_by_branches : (s : Setting) → is_regular s ≡ true → (fuel budget : ℕ) (goal normal negation start : Tree) (v : Verdict) → Normal (step s) goal normal → (normal ≡ true_tree → ⊥)
     → negation ≡ not_of goal → Normal (step s) negation start → Runs (proving IsClosed IsRound s) budget (from_formula fuel start) 0 [] (end_of v) → IsProverVerdict s fuel budget goal v
+unfolding IsProverVerdict
 proved_by_branches s regular fuel budget goal normal negation start v n other is m runs =
     ends_are_verdicts IsClosed IsRound are_sound s regular (one_round s) fuel budget goal v
     (by_branches (λ t. other (one_normal (step s) n t)) (subst (λ t. Normal (step s) t start) is m) runs)
 
 pub not_true : (t : Tree) → false ≡ same true_tree t → t ≡ true_tree → ⊥
 not_true t other is = let e : false ≡ true = other ∙ ap (same true_tree) is ∙ same_itself true_tree in absurd cc
+
+-- ---- what a verdict says
+
+pub verdict_valid : (s : Setting) (fuel budget : ℕ) (goal : Tree) (v : Verdict) → IsProverVerdict s fuel budget goal v → v ≡ verdict.Proved → Valid s goal
+unfolding IsProverVerdict
+verdict_valid s fuel budget goal v is proved = is.valid proved

@@ -20,5 +20,5 @@ IsReady = AreNormals
 
 -- A verdict on a goal: proved wherever its written expansion closes, and only where the goal is valid; else unknown, only for the reason for which the
 -- expansion ends.
-abbrev pub IsProverVerdict : Setting → (fuel branches : ℕ) → (goal : Tree) → Verdict → Type 0
+unfoldable pub IsProverVerdict : Setting → (fuel branches : ℕ) → (goal : Tree) → Verdict → Type 0
 IsProverVerdict = IsVerdictOf (proving IsClosed IsRound)

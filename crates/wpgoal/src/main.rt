@@ -1,4 +1,4 @@
-//! Floor 7, command: the program `wpgoal`: reads formulas, one a line, in the text that goals have, and writes each again, or its normal form.
+//! Floor 7, command: the program `wpgoal`: reads formulas, one a line, in the text that goals have, and writes the verdict on each, or its normal form.
 //! All that it does is `wpgoal_main`; here are the runtime and the status.
 #![tactic(auto)]
 
@@ -22,7 +22,8 @@ fn run(rt: HostRuntime) -> Status {
 fn text_of(status: Status) -> &'static str {
     match status {
         Status::AllProved | Status::SomeUnknown | Status::Refused => "",
-        Status::Usage => "usage: wpgoal [--normal] FILE",
+        Status::Usage =>
+            "usage: wpgoal [--normal | --machdep NAME | --fuel N | --branches N | --goals]... FILE",
         Status::ReadFault => "wpgoal: cannot read",
         Status::WriteFault => "wpgoal: cannot write",
         Status::NoMemory => "wpgoal: out of memory",

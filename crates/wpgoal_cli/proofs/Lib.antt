@@ -1,3 +1,4 @@
 pub mod Gathered
 pub mod Places
 pub mod Texts
+pub mod Settings

@@ -2,12 +2,13 @@
 ghost use Rattle.std.specs.Prelude.{◌≡◌, ◌↔◌, ◌≤◌, None, IsTrue, IfOk, Err};
 ghost use Rattle.std.specs.Option.{ForSome};
 ghost use Rattle.wp_io.specs.Faults.{Rose};
-ghost use Rattle.wpgoal_cli.specs.Command.{command_of as command, file_named as named, asks_normal};
+ghost use Rattle.wpgoal_cli.specs.Command.{command_of as command, file_named as named, wish_in};
+ghost use Rattle.wpgoal_cli.specs.View.{view_wish};
 ghost use Rattle.wpgoal_cli.specs.Top.{AnswersFile, WritesAnswer, told};
 ghost use Rattle.wpgoal_cli.specs.declared.top.Unread.TheVariants as unread;
 
 use crate::lines::{Answer, text_answer};
-use crate::words::command_of;
+use crate::words::{Wish, command_of};
 use std::alloc::Global;
 use wp_base::{NoMemory, Status, Str};
 use wp_io::{Failed, Files, ReadEnd, Sink, read_all, write_all};
@@ -43,16 +44,16 @@ fn file_answer<F: Files>(
     alloc: Global,
     files: &mut F,
     name: &Str,
-    normal: bool,
+    wish: Wish,
 ) -> Result<Answer, Unread>
     requires { IsTrue (F.may_open files.old name.now) }
-    ensures answer { IfOk result (λ answer. AnswersFile normal (F.holds files.old name.now) answer.status answer.text) }
+    ensures answer { IfOk result (λ answer. AnswersFile (view_wish wish) (F.holds files.old name.now) answer.status answer.text) }
     ensures fault { result ≡ Err Unread.ReadFault → Rose (F.faults files.old) (F.faults files.new) }
 {
     files.open(name)?;
     match read_all(alloc, files, MOST_BYTES) {
         Ok(text) => {
-            let answer = text_answer(alloc, normal, text.as_slice())?;
+            let answer = text_answer(alloc, wish, text.as_slice())?;
             Ok(answer)
         }
         Err(ReadEnd::ReadFault) => Err(Unread::ReadFault),
@@ -71,7 +72,7 @@ pub fn wpgoal_main<F: Files, K: Sink>(
 ) -> Status
     requires { ForSome (named words.now) (λ name. IsTrue (F.may_open files.old name)) }
     ensures usage { (result ≡ Status.Usage) ↔ (command words.now ≡ None) }
-    ensures answered { WritesAnswer (asks_normal words.now) (told F.holds files.old words.now) (K.taken out.old) (K.taken out.new) result }
+    ensures answered { WritesAnswer (wish_in words.now) (told F.holds files.old words.now) (K.taken out.old) (K.taken out.new) result }
     ensures read_fault { result ≡ Status.ReadFault → Rose (F.faults files.old) (F.faults files.new) }
     ensures write_fault { result ≡ Status.WriteFault → Rose (K.faults out.old) (K.faults out.new) }
     ensures unread_unwritten { result ≡ Status.ReadFault → out.new ≡ out.old }
@@ -80,7 +81,7 @@ pub fn wpgoal_main<F: Files, K: Sink>(
     let Some(asked) = command_of(words) else {
         return Status::Usage;
     };
-    let answer = match file_answer(alloc, files, asked.file, asked.normal) {
+    let answer = match file_answer(alloc, files, asked.file, asked.wish) {
         Ok(answer) => answer,
         Err(Unread::ReadFault) => return Status::ReadFault,
         Err(Unread::NoMemory) => return Status::NoMemory,

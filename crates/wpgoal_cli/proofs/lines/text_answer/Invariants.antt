@@ -1,11 +1,12 @@
 use Rattle.std.proofs.Common.{◌+◌, ◌≤◌, length}
 use Rattle.wpgoal_cli.specs.Lines.{Answered}
+use Rattle.wpgoal_cli.specs.View.{view_wish}
 use Rattle.wpgoal_cli.proofs.lines.text_answer.Given as goal
 
 -- the lines before what is left are answered
 abbrev pub invariant-loop-left : goal.invariant-loop-left
 invariant-loop-left l = record {
-  answered : Answered l.is_normal l.text l.left l.lines l.out.items;
+  answered : Answered (view_wish l.wish) l.text l.left l.lines l.out.items;
   few : l.lines + length l.left ≤ length l.text;
 }
 

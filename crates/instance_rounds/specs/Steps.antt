@@ -5,7 +5,7 @@ use Rattle.instance_rows.specs.Rows.{order_of_unequal, load_of_store, read_of_wr
 use Rattle.instance_rows.specs.PairRows.{frame_of_load, range_of_load, answer_of_layout}
 use Rattle.instance_rows.specs.Occurrences.{at_each, at_pairs}
 use Rattle.node_instances.specs.NodeRows.{node_row}
-use Rattle.pair_instances.specs.Rows.{pair_row}
+use Rattle.pair_instances.specs.PairRows.{pair_row}
 use Rattle.instance_rounds.specs.declared.steps.Step.{Step}
 use Rattle.instance_rounds.specs.declared.steps.Step.TheVariants as s
 

@@ -1,12 +1,12 @@
 -- Forms in order: a form is what its coefficients are, and what two forms lack is made part by part.
 use Rattle.std.proofs.Common.{◌≡◌, ◌≢◌, ◌⊎◌, ℕ, zero, suc, ◌+◌, ◌<◌, ◌≤◌, ◌==◌, Bool, true, false, if◌then◌else◌, length, map, List, [], ◌∷◌, ◌++◌, refl, sym, ◌∙◌, ap, subst, inl, inr, arith}
-use Rattle.std.specs.Prelude.{ℤ, pos, negsuc, ◌+ℤ◌, neg_ℤ, ◌<ℤ◌, ◌≤ℤ◌, int_lt}
+use Rattle.std.specs.Prelude.{ℤ, pos, negsuc, ◌+ℤ◌, neg_ℤ, ◌<ℤ◌, ◌≤ℤ◌, int_lt, Option, Some, None}
 use Rattle.std.specs.Ordering.{int_eq}
 use Rattle.std.specs.Cmp.{signed_Decides}
 use Rattle.std.proofs.lemmas.Bool.{cases_lt}
 use Rattle.std.proofs.lemmas.Int.{ints}
 use Rattle.linear_chains.specs.Links.{Form, IsAbove, IsOrdered, times_at, positive, negative, turned}
-use Rattle.linear_chains.specs.Sums.{IsOpposite, IsBelow, IsFrom, Precedes, Begins, IsFirst, Takes, with_part, Adding}
+use Rattle.linear_chains.specs.Sums.{IsOpposite, IsBelow, IsFrom, Precedes, Begins, IsFirst, Takes, with_part, Adding, first_of}
 
 -- ---- small facts
 
@@ -32,6 +32,12 @@ two_zeros a b d e = omega (arith, ints)
 
 -- ---- a form is what its coefficients are
 
+three_places : (a b : ℕ) → (a < b) ⊎ ((b < a) ⊎ (a ≡ b))
+three_places a b = elim (cases_lt a b) [
+  | inl l ↦ inl l
+  | inr g ↦ elim (cases_lt b a) [ inl l ↦ inr (inl l) | inr h ↦ inr (inr (omega arith)) ]
+]
+
 above_more : (c d : ℕ) (f : Form) → c ≤ d → IsAbove d f → IsAbove c f
 above_more c d [] l a = tt
 above_more c d (p ∷ f) l a = omega (arith, a)
@@ -55,7 +61,7 @@ pub one_form : (f g : Form) → IsOrdered f → IsOrdered g → ((c : ℕ) → t
 one_form [] [] o q same = refl
 one_form [] (r ∷ g) o q same = absurd ((q.0) (sym (same (r.0) ∙ at_first r g q)))
 one_form (p ∷ f) [] o q same = absurd ((o.0) (sym (at_first p f o) ∙ same (p.0)))
-one_form (p ∷ f) (r ∷ g) o q same = elim (three (p.0) (r.0)) [
+one_form (p ∷ f) (r ∷ g) o q same = elim (three_places (p.0) (r.0)) [
   | inl l ↦ absurd ((o.0) (sym (at_first p f o) ∙ same (p.0) ∙ nothing_before (r ∷ g) (p.0) (p.0) q l (omega arith)))
   | inr s ↦ elim s [
     | inl l ↦ absurd ((q.0) (sym (at_first r g q) ∙ sym (same (r.0)) ∙ nothing_before (p ∷ f) (r.0) (r.0) o l (omega arith)))
@@ -65,12 +71,83 @@ one_form (p ∷ f) (r ∷ g) o q same = elim (three (p.0) (r.0)) [
         λ i. (e i, z i) ∷ rest i
   ]
 ]
+
+-- ---- of three forms that leave nothing two begin with one class
+
+abbrev LeaveNothing : Form → Form → Form → Type 0
+LeaveNothing f g h = (c : ℕ) → times_at f c +ℤ (times_at g c +ℤ (times_at h c +ℤ pos 0)) ≡ pos 0
+
+-- a form whose first class is below all of the other two isn't made up for
+alone : (p : ℕ × ℤ) (f g h : Form) → IsOrdered (p ∷ f) → IsOrdered g → IsOrdered h → IsAbove (p.0) g → IsAbove (p.0) h → times_at (p ∷ f) (p.0) +ℤ (times_at g (p.0) +ℤ (times_at h (p.0) +ℤ pos 0)) ≡ pos 0 → ⊥
+alone p f g h o q r a b e =
+    o.0 (left_over (times_at (p ∷ f) (p.0)) (times_at g (p.0)) (times_at h (p.0)) (p.1) (at_first p f o) (nothing_before g (p.0) (p.0) q a (omega arith)) (nothing_before h (p.0) (p.0) r b (omega arith)) e)
   where
-    three : (a b : ℕ) → (a < b) ⊎ ((b < a) ⊎ (a ≡ b))
-    three a b = elim (cases_lt a b) [
-      | inl l ↦ inl l
-      | inr g ↦ elim (cases_lt b a) [ inl l ↦ inr (inl l) | inr h ↦ inr (inr (omega arith)) ]
+    left_over : (x y z w : ℤ) → x ≡ w → y ≡ pos 0 → z ≡ pos 0 → x +ℤ (y +ℤ (z +ℤ pos 0)) ≡ pos 0 → w ≡ pos 0
+    left_over x y z w d e f g = omega (arith, ints)
+
+second_first : (x y z : ℤ) → x +ℤ (y +ℤ (z +ℤ pos 0)) ≡ pos 0 → y +ℤ (x +ℤ (z +ℤ pos 0)) ≡ pos 0
+second_first x y z e = omega (arith, ints)
+
+third_first : (x y z : ℤ) → x +ℤ (y +ℤ (z +ℤ pos 0)) ≡ pos 0 → z +ℤ (x +ℤ (y +ℤ pos 0)) ≡ pos 0
+third_first x y z e = omega (arith, ints)
+
+alone_first : (p : ℕ × ℤ) (f g h : Form) → IsOrdered (p ∷ f) → IsOrdered g → IsOrdered h → LeaveNothing (p ∷ f) g h → IsAbove (p.0) g → IsAbove (p.0) h → ⊥
+alone_first p f g h o q r n a b = alone p f g h o q r a b (n (p.0))
+
+alone_second : (p : ℕ × ℤ) (f g h : Form) → IsOrdered f → IsOrdered (p ∷ g) → IsOrdered h → LeaveNothing f (p ∷ g) h → IsAbove (p.0) f → IsAbove (p.0) h → ⊥
+alone_second p f g h o q r n a b = alone p g f h q o r a b (second_first (times_at f (p.0)) (times_at (p ∷ g) (p.0)) (times_at h (p.0)) (n (p.0)))
+
+alone_third : (p : ℕ × ℤ) (f g h : Form) → IsOrdered f → IsOrdered g → IsOrdered (p ∷ h) → LeaveNothing f g (p ∷ h) → IsAbove (p.0) f → IsAbove (p.0) g → ⊥
+alone_third p f g h o q r n a b = alone p h f g r o q a b (third_first (times_at f (p.0)) (times_at g (p.0)) (times_at (p ∷ h) (p.0)) (n (p.0)))
+
+-- which two of three forms begin with one class
+abbrev pub TwoBegin : Form → Form → Form → Type 0
+TwoBegin f g h = (first_of f ≡ first_of g) ⊎ ((first_of f ≡ first_of h) ⊎ (first_of g ≡ first_of h))
+
+pub two_begin : (f g h : Form) → IsOrdered f → IsOrdered g → IsOrdered h → LeaveNothing f g h → TwoBegin f g h
+two_begin [] [] h o q r n = inl refl
+two_begin [] (y ∷ g) [] o q r n = inr (inl refl)
+two_begin [] (y ∷ g) (z ∷ h) o q r n = elim (three_places (y.0) (z.0)) [
+  | inl l ↦ absurd (alone_second y [] g (z ∷ h) o q r n tt l)
+  | inr s ↦ elim s [
+    | inl l ↦ absurd (alone_third z [] (y ∷ g) h o q r n tt l)
+    | inr e ↦ inr (inr (ap Some e))
+  ]
+]
+two_begin (x ∷ f) [] [] o q r n = inr (inr refl)
+two_begin (x ∷ f) [] (z ∷ h) o q r n = elim (three_places (x.0) (z.0)) [
+  | inl l ↦ absurd (alone_first x f [] (z ∷ h) o q r n tt l)
+  | inr s ↦ elim s [
+    | inl l ↦ absurd (alone_third z (x ∷ f) [] h o q r n l tt)
+    | inr e ↦ inr (inl (ap Some e))
+  ]
+]
+two_begin (x ∷ f) (y ∷ g) [] o q r n = elim (three_places (x.0) (y.0)) [
+  | inl l ↦ absurd (alone_first x f (y ∷ g) [] o q r n l tt)
+  | inr s ↦ elim s [
+    | inl l ↦ absurd (alone_second y (x ∷ f) g [] o q r n l tt)
+    | inr e ↦ inl (ap Some e)
+  ]
+]
+two_begin (x ∷ f) (y ∷ g) (z ∷ h) o q r n = elim (three_places (x.0) (y.0)) [
+  | inl l ↦ elim (three_places (x.0) (z.0)) [
+    | inl m ↦ absurd (alone_first x f (y ∷ g) (z ∷ h) o q r n l m)
+    | inr s ↦ elim s [
+      | inl m ↦ absurd (alone_third z (x ∷ f) (y ∷ g) h o q r n m (omega arith))
+      | inr e ↦ inr (inl (ap Some e))
     ]
+  ]
+  | inr s ↦ elim s [
+    | inl l ↦ elim (three_places (y.0) (z.0)) [
+      | inl m ↦ absurd (alone_second y (x ∷ f) g (z ∷ h) o q r n l m)
+      | inr t ↦ elim t [
+        | inl m ↦ absurd (alone_third z (x ∷ f) (y ∷ g) h o q r n (omega arith) m)
+        | inr e ↦ inr (inr (ap Some e))
+      ]
+    ]
+    | inr e ↦ inl (ap Some e)
+  ]
+]
 
 -- ---- parts behind a form
 

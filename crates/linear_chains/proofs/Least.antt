@@ -8,11 +8,11 @@ use Rattle.std.proofs.lemmas.Bool.{cases_lt}
 use Rattle.std.proofs.lemmas.Int.{ints}
 use Rattle.linear_chains.specs.Links.{Form, Link, step_of, IsOrdered, times_at, positive, negative}
 use Rattle.linear_chains.specs.Chains.{AllDiffer, AreOrdered, Picks, IsShortSum, IsRefuted, times_in, bounds_of, Meets}
-use Rattle.linear_chains.specs.Sums.{IsOpposite, IsLeast, Has, Lacks, NoThird, NoSumOfThree}
+use Rattle.linear_chains.specs.Sums.{IsOpposite, IsLeast, Has, Lacks, NoThird, NoSumOfThree, first_of}
 use Rattle.linear_chains.specs.View.{same_form, same_link}
 use Rattle.linear_chains.proofs.Equality.{form_is, form_self, told}
 use Rattle.linear_chains.proofs.Lists.{place_below, one_item, next_or}
-use Rattle.linear_chains.proofs.Forms.{one_form, opposite_sides}
+use Rattle.linear_chains.proofs.Forms.{one_form, opposite_sides, two_begin}
 use Rattle.linear_chains.proofs.Walking.{none_where_met}
 
 -- ---- one link is another
@@ -119,14 +119,14 @@ module _ (links : List Link) (ordered : AreOrdered links) (look : Form → Optio
       (x, y, third_is a b l form o (ordered k l q) (subst (λ z. Sum0 z b l) (sym x) (subst (λ z. Sum0 a' z l) (sym y) n)))
 
   pub no_place : look form ≡ None → NoThird links look i j
-  no_place none k a' b' l d e q r differ n neg =
+  no_place none k a' b' l d e q alike r differ n neg =
       let s = looked k a' b' l d e q n in
       let f : look (l.form) ≡ None = ap look s.2 ∙ none in
       absurd cc
 
   module _ (k : ℕ) (l : Link) (hit : look form ≡ Some k) (at_k : slice_get links k ≡ Some l) where
     pub no_sum : (AllDiffer (a ∷ b ∷ l ∷ []) → bounds_of (a ∷ b ∷ l ∷ []) <ℤ pos 0 → ⊥) → NoThird links look i j
-    no_sum none m a' b' l' d e q r differ n neg =
+    no_sum none m a' b' l' d e q alike r differ n neg =
         let s = looked m a' b' l' d e q n in
         let same : k ≡ m = one_item (look form) k m hit (ap look (sym s.2) ∙ r) in
         let z : l ≡ l' = one_item (slice_get links k) l l' at_k (ap (slice_get links) same ∙ q) in
@@ -197,8 +197,8 @@ module _ (links : List Link) (ordered : AreOrdered links) (d : Form → ℤ) (me
     swapped a b l h = (((λ e. h.0.0 (sym e)), (h.1.0.0, tt)), ((h.0.1.0, tt), (tt, tt)))
 
     -- a link of another form than these two is looked up
-    odd : (i j k : ℕ) (a b l : Link) → slice_get links i ≡ Some a → slice_get links j ≡ Some b → slice_get links k ≡ Some l → a ≢ b → l.form ≢ a.form → l.form ≢ b.form → Sum0 a b l → bounds_of (a ∷ b ∷ l ∷ []) <ℤ pos 0 → ⊥
-    odd i j k a b l at_i at_j at_k ab la lb n neg =
+    odd : (i j k : ℕ) (a b l : Link) → slice_get links i ≡ Some a → slice_get links j ≡ Some b → slice_get links k ≡ Some l → a ≢ b → l.form ≢ a.form → l.form ≢ b.form → first_of (a.form) ≡ first_of (b.form) → Sum0 a b l → bounds_of (a ∷ b ∷ l ∷ []) <ℤ pos 0 → ⊥
+    odd i j k a b l at_i at_j at_k ab la lb alike n neg =
         let best = t.least k l (place_below links k l at_k) at_k in
         let m = best.1 in
         let f = t.found (l.form) (best.0) best.2 in
@@ -209,10 +209,10 @@ module _ (links : List Link) (ordered : AreOrdered links) (d : Form → ℤ) (me
         let n' : Sum0 a b m = λ c. ap (λ z. times_at (a.form) c +ℤ (times_at (b.form) c +ℤ (times_at z c +ℤ pos 0))) is ∙ n c in
         let neg' : bounds_of (a ∷ b ∷ m ∷ []) <ℤ pos 0 = smaller (a.bound) (b.bound) (m.bound) (l.bound) best.4 neg in
         elim (cases_lt i j) [
-          | inl l' ↦ pairs i j l' (place_below links j b at_j) (best.0) a b m at_i at_j best.3 hit ((ab, (am, tt)), ((bm, tt), (tt, tt))) n' neg'
+          | inl l' ↦ pairs i j l' (place_below links j b at_j) (best.0) a b m at_i at_j best.3 alike hit ((ab, (am, tt)), ((bm, tt), (tt, tt))) n' neg'
           | inr g ↦
               let ne : i ≢ j = λ e. ab (one_item (slice_get links i) a b at_i (ap (slice_get links) e ∙ at_j)) in
-              pairs j i (omega arith) (place_below links i a at_i) (best.0) b a m at_j at_i best.3 hit (swapped a b m ((ab, (am, tt)), ((bm, tt), (tt, tt)))) (λ c. turn (times_at (a.form) c) (times_at (b.form) c) (times_at (m.form) c) (n' c))
+              pairs j i (omega arith) (place_below links i a at_i) (best.0) b a m at_j at_i best.3 (sym alike) hit (swapped a b m ((ab, (am, tt)), ((bm, tt), (tt, tt)))) (λ c. turn (times_at (a.form) c) (times_at (b.form) c) (times_at (m.form) c) (n' c))
               (turn_less (a.bound) (b.bound) (m.bound) neg')
         ]
       where
@@ -243,11 +243,20 @@ module _ (links : List Link) (ordered : AreOrdered links) (d : Form → ℤ) (me
     no_three i j k a b l at_i at_j at_k h n neg = elim (told (l.form) (a.form)) [
       | inl la ↦ elim (told (b.form) (a.form)) [
         | inl ba ↦ all_one_form i j k a b l at_i at_j at_k ba la n neg
-        | inr ba ↦ odd i k j a l b at_i at_k at_j (h.0.1.0) ba (λ e. ba (e ∙ la)) (λ c. middle (times_at (a.form) c) (times_at (b.form) c) (times_at (l.form) c) (n c)) (middle_less (a.bound) (b.bound) (l.bound) neg)
+        | inr ba ↦ odd i k j a l b at_i at_k at_j (h.0.1.0) ba (λ e. ba (e ∙ la)) (ap first_of (sym la)) (λ c. middle (times_at (a.form) c) (times_at (b.form) c) (times_at (l.form) c) (n c)) (middle_less (a.bound) (b.bound) (l.bound) neg)
       ]
       | inr la ↦ elim (told (l.form) (b.form)) [
-        | inl lb ↦ odd j k i b l a at_j at_k at_i (h.1.0.0) (λ e. la (lb ∙ sym e)) (λ e. la (sym e)) (λ c. last (times_at (a.form) c) (times_at (b.form) c) (times_at (l.form) c) (n c)) (last_less (a.bound) (b.bound) (l.bound) neg)
-        | inr lb ↦ odd i j k a b l at_i at_j at_k (h.0.0) la lb n neg
+        | inl lb ↦ odd j k i b l a at_j at_k at_i (h.1.0.0) (λ e. la (lb ∙ sym e)) (λ e. la (sym e)) (ap first_of (sym lb)) (λ c. last (times_at (a.form) c) (times_at (b.form) c) (times_at (l.form) c) (n c)) (last_less (a.bound) (b.bound) (l.bound) neg)
+        | inr lb ↦ elim (told (b.form) (a.form)) [
+          | inl ba ↦ odd i j k a b l at_i at_j at_k (h.0.0) la lb (ap first_of (sym ba)) n neg
+          | inr ba ↦ elim (two_begin (a.form) (b.form) (l.form) (ordered i a at_i) (ordered j b at_j) (ordered k l at_k) n) [
+            | inl e ↦ odd i j k a b l at_i at_j at_k (h.0.0) la lb e n neg
+            | inr s ↦ elim s [
+              | inl e ↦ odd i k j a l b at_i at_k at_j (h.0.1.0) ba (λ f. lb (sym f)) e (λ c. middle (times_at (a.form) c) (times_at (b.form) c) (times_at (l.form) c) (n c)) (middle_less (a.bound) (b.bound) (l.bound) neg)
+              | inr e ↦ odd j k i b l a at_j at_k at_i (h.1.0.0) (λ f. ba (sym f)) (λ f. la (sym f)) e (λ c. last (times_at (a.form) c) (times_at (b.form) c) (times_at (l.form) c) (n c)) (last_less (a.bound) (b.bound) (l.bound) neg)
+            ]
+          ]
+        ]
       ]
     ]
       where

@@ -75,10 +75,19 @@ pub record IsLeast (links : List Link) (n : ℕ) (look : Form → Option ℕ) : 
   pub found : (f : Form) (k : ℕ) → look f ≡ Some k → (l : Link) × (slice_get links k ≡ Some l) × (l.form ≡ f)
   pub least : (j : ℕ) (l : Link) → j < n → slice_get links j ≡ Some l → Has links look l
 
--- these two links have no third one in the table that makes a short sum
+-- the class that a form begins with, its least one
+abbrev pub first_of : Form → Option ℕ
+first_of [] = None
+first_of (p ∷ f) = Some (p.0)
+
+abbrev pub BeginApart : List Link → ℕ → ℕ → Type 0
+BeginApart links i j = (a b : Link) → slice_get links i ≡ Some a → slice_get links j ≡ Some b → first_of (a.form) ≡ first_of (b.form) → ⊥
+
+-- These two links, where they begin with one class, have no third one in the table that makes a short sum. Of three forms that leave nothing two begin
+-- with one class: the least of all would be left of a form that alone has it.
 abbrev pub NoThird : List Link → (Form → Option ℕ) → ℕ → ℕ → Type 0
 NoThird links look i j =
-    (k : ℕ) (a b l : Link) → slice_get links i ≡ Some a → slice_get links j ≡ Some b → slice_get links k ≡ Some l → look (l.form) ≡ Some k → AllDiffer (a ∷ b ∷ l ∷ []) → ((c : ℕ) → times_in (a ∷ b ∷ l ∷ []) c ≡ pos 0) → bounds_of (a ∷ b ∷ l ∷ []) <ℤ pos 0 → ⊥
+    (k : ℕ) (a b l : Link) → slice_get links i ≡ Some a → slice_get links j ≡ Some b → slice_get links k ≡ Some l → first_of (a.form) ≡ first_of (b.form) → look (l.form) ≡ Some k → AllDiffer (a ∷ b ∷ l ∷ []) → ((c : ℕ) → times_in (a ∷ b ∷ l ∷ []) c ≡ pos 0) → bounds_of (a ∷ b ∷ l ∷ []) <ℤ pos 0 → ⊥
 
 -- each two links have no third one
 abbrev pub NoSumOfThree : List Link → Type 0

@@ -1,10 +1,10 @@
 // Sums of three links: the form that two of them lack is looked up in a table of the least bounds.
 ghost use Rattle.std.specs.Prelude.{◌≡◌, ℕ, ◌+◌, ◌<◌, ◌+ℤ◌, ◌≤ℤ◌, pos, neg_ℤ, map, drop, length, OnOk, IfOk, IfSome, MatchOption};
 ghost use Rattle.std.specs.Bool.{MatchBool};
-ghost use Rattle.std.specs.Prelude.{[], ◌∷◌, ◌⊎◌, option_map};
+ghost use Rattle.std.specs.Prelude.{[], ◌∷◌, ◌⊎◌, false, option_map};
 ghost use Rattle.linear_chains.specs.Links.{Form, IsOrdered};
 ghost use Rattle.linear_chains.specs.Chains.{AllDiffer, AreOrdered, IsShortSum, bounds_of};
-ghost use Rattle.linear_chains.specs.Sums.{IsOpposite, Begins, IsFrom, IsFirst, Takes, with_part, IsLeast, NoThird, NoSumOfThree, ThreeMake, HasPlaces, Has, Lacks};
+ghost use Rattle.linear_chains.specs.Sums.{IsOpposite, Begins, IsFrom, IsFirst, Takes, with_part, IsLeast, NoThird, NoSumOfThree, ThreeMake, HasPlaces, Has, Lacks, first_of, BeginApart};
 ghost use Rattle.linear_chains.specs.Tables.{place_in};
 ghost use Rattle.linear_chains.specs.View.{link_of, same_link, total_of, MakeAt};
 
@@ -269,6 +269,25 @@ fn sum_at(
     }
 }
 
+/// Whether two forms begin with one class, or one of them has none. Of three forms that leave nothing two begin with one class.
+fn begin_alike(left: &[Part], right: &[Part]) -> bool
+    ensures { result ≡ false → first_of left.now ≡ first_of right.now → ⊥ }
+{
+    if left.is_empty() || right.is_empty() {
+        return true;
+    }
+    left[0].0 == right[0].0
+}
+
+/// Whether two links begin with one class, or one of them has none.
+fn may_sum(links: &[LinkForm], i: usize, j: usize) -> bool
+    requires first { i < length links.now }
+    requires second { j < length links.now }
+    ensures { result ≡ false → BeginApart (map link_of links.now) i j }
+{
+    begin_alike(links[i].form.as_slice(), links[j].form.as_slice())
+}
+
 /// The short sum that two links make with a third one.
 fn third(
     alloc: Global,
@@ -283,6 +302,9 @@ fn third(
     requires table { IsLeast (map link_of links.now) (length links.now) (place_in table.now.entries) }
     ensures { IfOk result (λ o. MatchOption o (NoThird (map link_of links.now) (place_in table.now.entries) i j) (λ r. IsShortSum (map link_of links.now) r.places.items r.total)) }
 {
+    if !may_sum(links, i, j) {
+        return Ok(None);
+    }
     let form = opposite(alloc, links[i].form.as_slice(), links[j].form.as_slice())?;
     match place_of(table, form.as_slice()) {
         None => Ok(None),

@@ -1,1 +1,2 @@
 pub mod Prover
+pub mod Late

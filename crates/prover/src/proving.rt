@@ -6,8 +6,13 @@ ghost use Rattle.qed_terms.specs.Tree.{not_of, true_tree};
 ghost use Rattle.qed_terms.specs.View.{formula_tree, view_setting};
 ghost use Rattle.qed_terms.specs.Order.{same};
 ghost use Rattle.stored_normals.specs.Kept.{IsExact};
+ghost use Rattle.branches.specs.Expansion.{Runs, from_formula, all_closed};
+ghost use Rattle.instance_rows.specs.Round.{IsRound};
+ghost use Rattle.expansion_ends.specs.Goals.{proving};
+ghost use Rattle.prover.specs.Late.{IsClosedLate};
 ghost use Rattle.prover.specs.Prover.{IsProverVerdict};
 
+use crate::late::new_late;
 use crate::rules::new_prover;
 use added_instances::is_true;
 use branch_changes::ChangeRules;
@@ -37,8 +42,32 @@ fn negation_in<S: TermStore>(
     Ok(id)
 }
 
+/// Whether an expansion of a formula closes that looks late whether a branch is closed, in a regular setting.
+fn closes_late<S: TermStore>(
+    alloc: Global,
+    store: &mut S,
+    start: S::Id,
+    fuel: u32,
+    branches: u32,
+    world: &Setting,
+) -> Result<bool, NoMemory>
+    requires exact { IsExact S.Id.eq }
+    requires regular { is_regular (view_setting world.now) ≡ true }
+    requires held { S.held store.old start }
+    ensures older { OnOk result (KeepsOlder (S.held store.old) (S.held store.new) (S.tree store.old) (S.tree store.new)) }
+    ensures runs { IfOk result (λ closes. closes ≡ true → Runs (proving IsClosedLate IsRound (view_setting world.now)) branches (from_formula fuel (S.tree store.old start)) 0 [] all_closed) }
+{
+    let mut late = new_late(alloc, &*store);
+    let verdict = expand(alloc, store, &mut late, start, fuel, branches, world)?;
+    match verdict {
+        Verdict::Proved => Ok(true),
+        Verdict::Open | Verdict::Branches | Verdict::Size => Ok(false),
+    }
+}
+
 /// The verdict on a formula that a store holds, in a regular setting: proved at once where its normal form is `true`, and else as the
-/// expansion of its negation ends.
+/// expansion of its negation ends. Before that an expansion is tried that looks less often whether a branch is closed: it is as sound,
+/// and most goals close by it.
 #[tactic(auto, using(stored_normals::proofs::Keeping::later_kept))]
 pub fn prove_in<S: TermStore>(
     alloc: Global,
@@ -61,6 +90,10 @@ pub fn prove_in<S: TermStore>(
     }
     let negation = negation_in(alloc, store, goal)?;
     let start = prover.stored.normal(alloc, store, negation, world)?;
+    let closes = closes_late(alloc, store, start, fuel, branches, world)?;
+    if closes {
+        return Ok(Verdict::Proved);
+    }
     let verdict = expand(alloc, store, &mut prover, start, fuel, branches, world)?;
     Ok(verdict)
 }

@@ -18,9 +18,24 @@ fn run(rt: HostRuntime) -> Status {
     }
 }
 
+// What is said on standard error.
+fn text_of(status: Status) -> &'static str {
+    match status {
+        Status::Usage => {
+            "usage: wp [--machdep NAME] [--fuel N] [--branches N] [--goals] FILE"
+        }
+        Status::AllProved
+        | Status::SomeUnknown
+        | Status::Refused
+        | Status::ReadFault
+        | Status::WriteFault
+        | Status::NoMemory => status.text(),
+    }
+}
+
 fn main(rt: HostRuntime) -> ExitCode {
     let status = run(rt);
-    let text = status.text();
+    let text = text_of(status);
     if !text.is_empty() {
         // Where standard error is closed too, the status says it alone.
         let _ = eprintln!(rt; "{text}");

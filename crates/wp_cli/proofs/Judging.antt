@@ -1,21 +1,12 @@
--- Verdicts by the normal form, and lists of which each item is so with the one at its place in another.
+-- Lists of which each item is so with the one at its place in another.
 use Rattle.std.proofs.Common.{◌≡◌, ℕ, zero, suc, ◌+◌, ◌<◌, Bool, List, [], ◌∷◌, ◌++◌, map, take, length, get_or, Some, refl, sym, ap, ◌∙◌, subst}
 use Rattle.std.specs.Prelude.{slice_get}
 use Rattle.std.proofs.lemmas.List.{take_more, map_push, map-append}
-use Rattle.qed_terms.specs.Tree.{Tree, true_tree}
-use Rattle.qed_rules.specs.Rules.{step}
-use Rattle.qed_simplify.specs.Normal.{Normal, plain as of_width}
-use Rattle.qed_simplify.proofs.Derived.{one_normal}
 use Rattle.wp_calculus.specs.View.{PlainGoal, plain}
 use Rattle.wp_calculus.specs.Goals.{Goal}
+use Rattle.wp_words.specs.Command.{Wanted}
 use Rattle.wp_cli.specs.Report.{Judged}
 use Rattle.wp_cli.specs.Answers.{IsJudged, EachIsSo, AreJudged}
-
-pub normal_true : (goal formula normal : Tree) → formula ≡ goal → Normal (step (of_width 64)) formula normal → normal ≡ true_tree → Normal (step (of_width 64)) goal true_tree
-normal_true goal formula normal same n is = subst (λ t. Normal (step (of_width 64)) t true_tree) same (subst (Normal (step (of_width 64)) formula) is n)
-
-pub normal_other : (goal formula normal : Tree) → formula ≡ goal → Normal (step (of_width 64)) formula normal → (normal ≡ true_tree → ⊥) → Normal (step (of_width 64)) goal true_tree → ⊥
-normal_other goal formula normal same n not proved = not (one_normal (step (of_width 64)) n (subst (λ t. Normal (step (of_width 64)) t true_tree) (sym same) proved))
 
 -- ---- items at the same place
 
@@ -59,8 +50,8 @@ partner_at Is (a ∷ xs) (b ∷ ys) (suc i) x all m = partner_at Is xs ys i x al
 -- ---- goals in memory
 
 -- a goal whose number isn't told
-abbrev pub IsJudgedAs : (shows : Bool) → PlainGoal → Judged → Type 0
-IsJudgedAs shows w j = IsJudged shows w.place w.known w.claim j
+abbrev pub IsJudgedAs : (wanted : Wanted) → PlainGoal → Judged → Type 0
+IsJudgedAs wanted w j = IsJudged wanted w.place w.known w.claim j
 
-pub goals_judged : (shows : Bool) (ws : List PlainGoal) (gs : List Goal) (js : List Judged) → ws ≡ map plain gs → EachIsSo (IsJudgedAs shows) ws js → AreJudged shows gs js
-goals_judged shows ws gs js same all = each_seen (IsJudgedAs shows) plain gs js (subst (λ ws. EachIsSo (IsJudgedAs shows) ws js) same all)
+pub goals_judged : (wanted : Wanted) (ws : List PlainGoal) (gs : List Goal) (js : List Judged) → ws ≡ map plain gs → EachIsSo (IsJudgedAs wanted) ws js → AreJudged wanted gs js
+goals_judged wanted ws gs js same all = each_seen (IsJudgedAs wanted) plain gs js (subst (λ ws. EachIsSo (IsJudgedAs wanted) ws js) same all)

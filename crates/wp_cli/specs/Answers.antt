@@ -7,30 +7,24 @@ use Rattle.wp_base.specs.declared.answers.Status.TheVariants as status
 use Rattle.c_kinds.specs.declared.models.Machdep.{Machdep}
 use Rattle.c_lexer.specs.Tokens.{most_bytes}
 use Rattle.qed_terms.specs.declared.verdict.Verdict.{Verdict}
-use Rattle.qed_terms.specs.declared.verdict.Verdict.TheVariants as verdict
-use Rattle.qed_terms.specs.Tree.{Tree, true_tree, goal_of}
+use Rattle.qed_terms.specs.Tree.{Tree, goal_of}
 use Rattle.core_prog.specs.Tree.{Function, Program}
 use Rattle.c_front.specs.Text.{Spells}
 use Rattle.c_front.specs.Text as front
-use Rattle.qed_rules.specs.Rules.{step}
-use Rattle.qed_simplify.specs.Normal.{Normal, plain}
+use Rattle.qed_simplify.specs.Normal.{plain}
+use Rattle.prover.specs.Prover.{IsProverVerdict}
 use Rattle.goal_text.specs.Text.{goal_text}
 use Rattle.wp_calculus.specs.Segments.{Place}
 use Rattle.wp_calculus.specs.Goals.{Goal, goals}
+use Rattle.wp_words.specs.Command.{Wanted}
 use Rattle.wp_cli.specs.Report.{Judged, Reported, all_proved, report_text, refusal_line}
 
 -- ---- verdicts
 
--- the normal form of the formula is `true`; `long` has 64 bits, as in the setting of goals
-abbrev pub IsProved : Tree → Type 0
-IsProved formula = Normal (step (plain 64)) formula true_tree
-
--- A goal is called proved exactly where it is, and else unknown for want of more; none is given up for its size or its branches.
-abbrev pub IsVerdict : Verdict → Tree → Type 0
-IsVerdict verdict.Proved formula = IsProved formula
-IsVerdict verdict.Open formula = IsProved formula → ⊥
-IsVerdict verdict.Branches formula = ⊥
-IsVerdict verdict.Size formula = ⊥
+-- A verdict that may be given of a goal, as far as it is to be decided: proved wherever its expansion closes, and only where it is valid; unknown only for the
+-- reason for which its expansion ends. `long` has 64 bits, as in the setting of goals.
+abbrev pub IsVerdict : Wanted → Verdict → Tree → Type 0
+IsVerdict wanted v goal = IsProverVerdict (plain 64) wanted.fuel wanted.branches goal v
 
 -- the text of a goal, where goals are shown
 abbrev pub shown : Bool → (known : List Tree) → (claim : Tree) → Option (List ℕ)
@@ -38,10 +32,10 @@ shown true known claim = Some (goal_text known claim)
 shown false known claim = None
 
 -- of a goal: its check, its verdict and its text
-pub record IsJudged (shows : Bool) (place : Place) (known : List Tree) (claim : Tree) (j : Judged) : Type 0 where
+pub record IsJudged (wanted : Wanted) (place : Place) (known : List Tree) (claim : Tree) (j : Judged) : Type 0 where
   pub same_place : j.place ≡ place
-  pub verdict : IsVerdict j.verdict (goal_of known claim)
-  pub text : j.text ≡ shown shows known claim
+  pub verdict : IsVerdict wanted j.verdict (goal_of known claim)
+  pub text : j.text ≡ shown wanted.shows known claim
 
 -- as many items on both sides, and each is so with the one at its place
 abbrev pub EachIsSo : {X Y : Type 0} → (X → Y → Type 0) → List X → List Y → Type 0
@@ -51,16 +45,16 @@ EachIsSo Is (x ∷ xs) [] = ⊥
 EachIsSo Is (x ∷ xs) (y ∷ ys) = Is x y × EachIsSo Is xs ys
 
 -- each goal with its verdict, in order
-abbrev pub AreJudged : (shows : Bool) → List Goal → List Judged → Type 0
-AreJudged shows = EachIsSo (λ (g : Goal) (j : Judged). IsJudged shows g.place g.known g.claim j)
+abbrev pub AreJudged : (wanted : Wanted) → List Goal → List Judged → Type 0
+AreJudged wanted = EachIsSo (λ (g : Goal) (j : Judged). IsJudged wanted g.place g.known g.claim j)
 
-pub record IsReported (shows : Bool) (f : Function) (r : Reported) : Type 0 where
+pub record IsReported (wanted : Wanted) (f : Function) (r : Reported) : Type 0 where
   pub name : r.name ≡ f.name
-  pub goals : AreJudged shows (goals f) r.goals
+  pub goals : AreJudged wanted (goals f) r.goals
 
 -- each function's name and goals, in order
-abbrev pub IsReportOf : (shows : Bool) → Program → List Reported → Type 0
-IsReportOf shows = EachIsSo (IsReported shows)
+abbrev pub IsReportOf : (wanted : Wanted) → Program → List Reported → Type 0
+IsReportOf wanted = EachIsSo (IsReported wanted)
 
 -- ---- faults of a text
 
@@ -73,7 +67,7 @@ pub data HasFault (m : Machdep) (text : List ℕ) : Refusal → Type 0 where
 -- ---- answers
 
 -- the status and the bytes that answer a text with this data model, with goals shown or not
-pub data Answers (m : Machdep) (shows : Bool) (text : List ℕ) : Status → List ℕ → Type 0 where
-  proved : (p : Program) (rs : List Reported) → length text ≤ most_bytes → Spells m text p → IsReportOf shows p rs → all_proved rs ≡ true → Answers m shows text status.AllProved (report_text rs)
-  unknown : (p : Program) (rs : List Reported) → length text ≤ most_bytes → Spells m text p → IsReportOf shows p rs → all_proved rs ≡ false → Answers m shows text status.SomeUnknown (report_text rs)
-  refused : (r : Refusal) → HasFault m text r → Answers m shows text status.Refused (refusal_line r)
+pub data Answers (m : Machdep) (wanted : Wanted) (text : List ℕ) : Status → List ℕ → Type 0 where
+  proved : (p : Program) (rs : List Reported) → length text ≤ most_bytes → Spells m text p → IsReportOf wanted p rs → all_proved rs ≡ true → Answers m wanted text status.AllProved (report_text rs)
+  unknown : (p : Program) (rs : List Reported) → length text ≤ most_bytes → Spells m text p → IsReportOf wanted p rs → all_proved rs ≡ false → Answers m wanted text status.SomeUnknown (report_text rs)
+  refused : (r : Refusal) → HasFault m text r → Answers m wanted text status.Refused (refusal_line r)

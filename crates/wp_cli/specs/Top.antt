@@ -16,7 +16,7 @@ use Rattle.wp_calculus.specs.Machine.{IsCorrect}
 use Rattle.wp_calculus.specs.Goals.{Goal, goals, formula_of}
 use Rattle.wp_calculus.specs.Theorems.{plain_setting, IsExact}
 use Rattle.wp_cli.specs.Report.{Judged, Reported, all_proved, goals_proved, refusal_line, report_text}
-use Rattle.wp_words.specs.Command.{file_named}
+use Rattle.wp_words.specs.Command.{Wanted, file_named}
 use Rattle.wp_cli.specs.Answers.{Answers, HasFault, IsReportOf}
 
 -- what the file that the words name holds, where the words are a command and that is told
@@ -41,16 +41,16 @@ ReadsEnough status.Refused told left = IsAtEnd left ⊎ TookTooMuch told left
 ReadsEnough _ told left = Unit {0}
 
 -- the answer to the text that was read, with this data model, and with goals shown or not
-pub record AnswersFile (m : Machdep) (shows : Bool) (told : Option (List ℕ)) (result : Status) (bytes : List ℕ) : Type 0 where
+pub record AnswersFile (m : Machdep) (wanted : Wanted) (told : Option (List ℕ)) (result : Status) (bytes : List ℕ) : Type 0 where
   pub text : List ℕ
   pub read : IsRead told text
-  pub answer : Answers m shows text result bytes
+  pub answer : Answers m wanted text result bytes
 
 -- a front of an answer was written, and not the whole
-pub record WritesFront (m : Machdep) (shows : Bool) (told before after : Option (List ℕ)) : Type 0 where
+pub record WritesFront (m : Machdep) (wanted : Wanted) (told before after : Option (List ℕ)) : Type 0 where
   pub result : Status
   pub bytes : List ℕ
-  pub answered : AnswersFile m shows told result bytes
+  pub answered : AnswersFile m wanted told result bytes
   pub written : TakesFront before after bytes
 
 -- ---- what the report says of the program
@@ -78,14 +78,14 @@ pub record Claims (p : Program) (rs : List Reported) : Type 0 where
 -- ---- what was written
 
 -- The report of the program that the text spells was written whole, and what it claims of the program is so. `every`: each verdict in it is proved.
-pub record WritesReport (m : Machdep) (shows : Bool) (told before after : Option (List ℕ)) (every : Bool) : Type 0 where
+pub record WritesReport (m : Machdep) (wanted : Wanted) (told before after : Option (List ℕ)) (every : Bool) : Type 0 where
   pub text : List ℕ
   pub read : IsRead told text
   pub within : length text ≤ most_bytes
   pub program : Program
   pub spelled : Spells m text program
   pub report : List Reported
-  pub judged : IsReportOf shows program report
+  pub judged : IsReportOf wanted program report
   pub all : all_proved report ≡ every
   pub written : Appends before after (report_text report)
   pub claims : Claims program report
@@ -99,11 +99,11 @@ pub record WritesRefusal (m : Machdep) (told before after : Option (List ℕ)) :
   pub written : Appends before after (refusal_line fault)
 
 -- by its status, what a call has written
-abbrev pub WritesAnswer : Machdep → (shows : Bool) → (told before after : Option (List ℕ)) → Status → Type 0
-WritesAnswer m shows told before after status.AllProved = WritesReport m shows told before after true
-WritesAnswer m shows told before after status.SomeUnknown = WritesReport m shows told before after false
-WritesAnswer m shows told before after status.Refused = WritesRefusal m told before after
-WritesAnswer m shows told before after _ = Unit {0}
+abbrev pub WritesAnswer : Machdep → (wanted : Wanted) → (told before after : Option (List ℕ)) → Status → Type 0
+WritesAnswer m wanted told before after status.AllProved = WritesReport m wanted told before after true
+WritesAnswer m wanted told before after status.SomeUnknown = WritesReport m wanted told before after false
+WritesAnswer m wanted told before after status.Refused = WritesRefusal m told before after
+WritesAnswer m wanted told before after _ = Unit {0}
 
 -- ---- what is answered to a text that is told
 

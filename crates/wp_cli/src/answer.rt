@@ -3,6 +3,8 @@ ghost use Rattle.std.specs.Prelude.{◌≡◌, ◌≤◌, ◌<◌, ℕ, Bool, Li
 ghost use Rattle.core_prog.specs.View.{view_program};
 ghost use Rattle.c_lexer.specs.Tokens.{most_bytes};
 ghost use Rattle.c_kinds.specs.declared.models.Machdep.{Machdep as Model};
+ghost use Rattle.wp_words.specs.Command.{Wanted as Wishes};
+ghost use Rattle.wp_words.specs.CommandView.{view_wanted};
 ghost use Rattle.wp_cli.specs.Answers.{Answers};
 ghost use Rattle.wp_cli.specs.AnswerView.{ReportAnswers};
 ghost use Rattle.wp_cli.specs.Report as spec;
@@ -17,6 +19,7 @@ use core_prog::Core;
 use qed_terms::Verdict;
 use std::alloc::Global;
 use wp_base::{NoMemory, Refusal, Rule, Status, Stop, Str};
+use wp_words::Wanted;
 
 /// How a run ends, and what it writes.
 #[derive(Drop)]
@@ -48,11 +51,11 @@ fn all_proved(functions: &[FunctionReport]) -> bool
     true
 }
 
-// The report of a program, with its goals where they are to be shown.
-fn report_answer(alloc: Global, core: &Core, shows_goals: bool) -> Result<Answer, NoMemory>
-    ensures { IfOk result (λ answer. ReportAnswers shows_goals (view_program core.now) answer.status answer.text) }
+// The report of a program, with its goals as they are wanted.
+fn report_answer(alloc: Global, core: &Core, wanted: Wanted) -> Result<Answer, NoMemory>
+    ensures { IfOk result (λ answer. ReportAnswers (view_wanted wanted) (view_program core.now) answer.status answer.text) }
 {
-    let judged = judge_program(alloc, core, shows_goals)?;
+    let judged = judge_program(alloc, core, wanted)?;
     let text = report_text(alloc, &judged)?;
     let status = if all_proved(judged.functions.as_slice()) {
         Status::AllProved
@@ -76,7 +79,7 @@ fn refusal_answer(alloc: Global, refusal: Refusal) -> Result<Answer, NoMemory>
 
 /// The answer to a text that is too long.
 pub fn too_long_answer(alloc: Global) -> Result<Answer, NoMemory>
-    ensures answer { IfOk result (λ answer. (text : List ℕ) → most_bytes < length text → (m : Model) (shows : Bool) → Answers m shows text answer.status answer.text) }
+    ensures answer { IfOk result (λ answer. (text : List ℕ) → most_bytes < length text → (m : Model) (w : Wishes) → Answers m w text answer.status answer.text) }
     ensures status { IfOk result (λ answer. answer.status ≡ Status.Refused) }
 {
     refusal_answer(
@@ -88,19 +91,19 @@ pub fn too_long_answer(alloc: Global) -> Result<Answer, NoMemory>
     )
 }
 
-/// The answer to a text with this data model: the report of the program that it spells, with its goals where they are to be
-/// shown, or the line that refuses it.
+/// The answer to a text with this data model: the report of the program that it spells, with its goals as they are wanted, or the line
+/// that refuses it.
 pub fn text_answer(
     alloc: Global,
     model: Machdep,
     text: &[u8],
-    shows_goals: bool,
+    wanted: Wanted,
 ) -> Result<Answer, NoMemory>
     requires { length text.now ≤ most_bytes }
-    ensures { IfOk result (λ answer. Answers model shows_goals text.now answer.status answer.text) }
+    ensures { IfOk result (λ answer. Answers model (view_wanted wanted) text.now answer.status answer.text) }
 {
     match read_program(alloc, model, text) {
-        Ok(core) => report_answer(alloc, &core, shows_goals),
+        Ok(core) => report_answer(alloc, &core, wanted),
         Err(Stop::Refused(refusal)) => refusal_answer(alloc, refusal),
         Err(Stop::NoMemory) => Err(NoMemory),
     }

@@ -3,7 +3,8 @@ ghost use Rattle.std.specs.Prelude.{◌≡◌, ◌↔◌, ◌≤◌, ℕ, List, 
 ghost use Rattle.std.specs.Option.{ForSome};
 ghost use Rattle.wp_io.specs.Faults.{Rose};
 ghost use Rattle.wp_io.specs.Reads.{SameNames};
-ghost use Rattle.wp_words.specs.Command.{command_of as command, file_named as named, model_asked as model, shows_goals as shows};
+ghost use Rattle.wp_words.specs.Command.{command_of as command, file_named as named, model_asked as model, wanted_of as wanted_by};
+ghost use Rattle.wp_words.specs.CommandView.{view_wanted};
 ghost use Rattle.wp_cli.specs.Top.{AnswersFile, IsAnsweredBy, ReadsEnough, WritesAnswer, WritesFront, told};
 ghost use Rattle.wp_cli.specs.declared.top.Unread.TheVariants as unread;
 
@@ -13,7 +14,7 @@ use c_lexer::MOST_BYTES;
 use std::alloc::Global;
 use wp_base::{NoMemory, Status, Str};
 use wp_io::{Failed, Files, ReadEnd, Sink, read_all, write_all};
-use wp_words::command_of;
+use wp_words::{Wanted, command_of};
 
 /// Why there is no answer.
 #[derive(Clone, Copy, Debug, PartialEq, Eq)]
@@ -38,16 +39,16 @@ impl From<NoMemory> for Unread {
     }
 }
 
-// Reads a file and finds the answer to its text with this data model, with its goals where they are to be shown.
+// Reads a file and finds the answer to its text with this data model, with its goals as they are wanted.
 fn file_answer<F: Files>(
     alloc: Global,
     files: &mut F,
     name: &Str,
     machdep: Machdep,
-    shows_goals: bool,
+    wanted: Wanted,
 ) -> Result<Answer, Unread>
     requires { IsTrue (F.may_open files.old name.now) }
-    ensures answer { IfOk result (λ answer. AnswersFile machdep shows_goals (F.holds files.old name.now) answer.status answer.text) }
+    ensures answer { IfOk result (λ answer. AnswersFile machdep (view_wanted wanted) (F.holds files.old name.now) answer.status answer.text) }
     ensures read { IfOk result (λ answer. ReadsEnough answer.status (F.holds files.old name.now) (F.left files.new)) }
     ensures fault { result ≡ Err Unread.ReadFault → Rose (F.faults files.old) (F.faults files.new) }
     ensures later { F.faults files.old ≤ F.faults files.new }
@@ -56,7 +57,7 @@ fn file_answer<F: Files>(
     files.open(name)?;
     match read_all(alloc, files, MOST_BYTES) {
         Ok(text) => {
-            let answer = text_answer(alloc, machdep, text.as_slice(), shows_goals)?;
+            let answer = text_answer(alloc, machdep, text.as_slice(), wanted)?;
             Ok(answer)
         }
         Err(ReadEnd::TooLong) => {
@@ -73,9 +74,9 @@ fn file_answer<F: Files>(
 /// opening and reading, faults of the text, goals, writing. `NoMemory` may stand before any but the
 /// first and the last.
 ///
-/// A command is `[--goals] [--machdep NAME] [--] FILE`, the options and the file in any order, each at most once. NAME is `x86_32`
-/// or `x86_64`, as the next word or behind `=`; where none is named it is `x86_64`. `--` ends the options, only after it FILE may
-/// begin with `-`, and it isn't `-` alone; all words are UTF-8.
+/// A command is `[--machdep NAME] [--fuel N] [--branches N] [--goals] [--] FILE`, the options and the file in any order, each at most
+/// once. NAME is `x86_32` or `x86_64`, or else `x86_64`; fuel is 0 to 4, or else 2; branches are 1 to 65536, or else 4096. A value is the
+/// next word or stands behind `=`. `--` ends the options, only after it FILE may begin with `-`, and it isn't `-` alone; all words are UTF-8.
 /// Under `--goals` each goal's line in the report is followed by a line of two spaces and its text.
 pub fn wp_main<F: Files, K: Sink>(
     alloc: Global,
@@ -95,13 +96,13 @@ pub fn wp_main<F: Files, K: Sink>(
 
     // What is written is the answer to the text that was read: the report of the program that it spells, of which all that the report
     // claims is so, or the line of its fault.
-    ensures answered { WritesAnswer (model words.now) (shows words.now) (told F.holds files.old words.now) (K.taken out.old) (K.taken out.new) result }
+    ensures answered { WritesAnswer (model words.now) (wanted_by words.now) (told F.holds files.old words.now) (K.taken out.old) (K.taken out.new) result }
 
     // Faults.
     ensures read_fault { result ≡ Status.ReadFault → Rose (F.faults files.old) (F.faults files.new) }
     ensures unread_unwritten { result ≡ Status.ReadFault → out.new ≡ out.old }
     ensures write_fault { result ≡ Status.WriteFault → Rose (K.faults out.old) (K.faults out.new) }
-    ensures front { result ≡ Status.WriteFault → WritesFront (model words.now) (shows words.now) (told F.holds files.old words.now) (K.taken out.old) (K.taken out.new) }
+    ensures front { result ≡ Status.WriteFault → WritesFront (model words.now) (wanted_by words.now) (told F.holds files.old words.now) (K.taken out.old) (K.taken out.new) }
     ensures no_memory_unwritten { result ≡ Status.NoMemory → out.new ≡ out.old }
 
     // It may be called again: names and what they hold are as before, and no count of faults falls.
@@ -122,7 +123,7 @@ pub fn wp_main<F: Files, K: Sink>(
         files,
         command.file,
         command.model,
-        command.shows_goals,
+        command.wanted,
     ) {
         Ok(answer) => answer,
         Err(Unread::ReadFault) => return Status::ReadFault,

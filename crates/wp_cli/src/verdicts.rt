@@ -4,28 +4,30 @@ ghost use Rattle.core_prog.specs.View.{view_function, view_program};
 ghost use Rattle.qed_terms.specs.View.{formula_tree, goal_tree};
 ghost use Rattle.wp_calculus.specs.Goals as calculus;
 ghost use Rattle.wp_calculus.specs.View.{view_place};
+ghost use Rattle.wp_words.specs.CommandView.{view_wanted};
 ghost use Rattle.wp_cli.specs.Answers.{AreJudged, IsJudged, IsReportOf, IsVerdict, shown};
 ghost use Rattle.wp_cli.specs.ReportView as report;
 
 use crate::report::{FunctionReport, Report, ReportGoal};
 use core_prog::{Core, Function};
 use goal_text::write_goal;
-use qed_simplify::normal_plain;
+use prover::prove;
+use qed_simplify::plain_setting;
 use qed_terms::{Goal, Verdict};
 use std::alloc::Global;
 use wp_base::{List, NoMemory, Str};
 use wp_calculus::{NamedGoal, goals};
+use wp_words::Wanted;
 
-// Proved exactly where the normal form of the goal is `true`. In the setting of goals, which don't speak of it, `long` has 64 bits.
-fn verdict_of(alloc: Global, goal: &Goal) -> Result<Verdict, NoMemory>
-    ensures { IfOk result (λ verdict. IsVerdict verdict (goal_tree goal.now)) }
+// The prover's verdict, as far as goals are to be decided. In the setting of goals, which don't speak of it, `long` has 64 bits.
+#[tactic(auto, using(qed_simplify::proofs::Laws::plain_settings))]
+fn verdict_of(alloc: Global, goal: &Goal, wanted: Wanted) -> Result<Verdict, NoMemory>
+    ensures { IfOk result (λ verdict. IsVerdict (view_wanted wanted) verdict (goal_tree goal.now)) }
 {
     let formula = goal.formula(alloc)?;
-    let normal = normal_plain(alloc, &formula)?;
-    if normal.is_true() {
-        return Ok(Verdict::Proved);
-    }
-    Ok(Verdict::Open)
+    let setting = plain_setting(alloc, 64);
+    let verdict = prove(alloc, &formula, wanted.fuel, wanted.branches, &setting)?;
+    Ok(verdict)
 }
 
 // The text of the goal, where goals are to be shown.
@@ -39,12 +41,12 @@ fn text_of(alloc: Global, goal: &Goal, shows_goals: bool) -> Result<Option<Str>,
 }
 
 // A goal with its verdict, and its text where goals are to be shown.
-fn judge(alloc: Global, named: &NamedGoal, shows_goals: bool) -> Result<ReportGoal, NoMemory>
-    ensures { IfOk result (λ judged. IsJudged shows_goals (view_place named.now.place) (map formula_tree named.now.goal.known) (formula_tree named.now.goal.check) (report.view_goal judged)) }
+fn judge(alloc: Global, named: &NamedGoal, wanted: Wanted) -> Result<ReportGoal, NoMemory>
+    ensures { IfOk result (λ judged. IsJudged (view_wanted wanted) (view_place named.now.place) (map formula_tree named.now.goal.known) (formula_tree named.now.goal.check) (report.view_goal judged)) }
 {
     let place = named.place;
-    let verdict = verdict_of(alloc, &named.goal)?;
-    let text = text_of(alloc, &named.goal, shows_goals)?;
+    let verdict = verdict_of(alloc, &named.goal, wanted)?;
+    let text = text_of(alloc, &named.goal, wanted.shows_goals)?;
     Ok(ReportGoal {
         place,
         verdict,
@@ -56,16 +58,16 @@ fn judge(alloc: Global, named: &NamedGoal, shows_goals: bool) -> Result<ReportGo
 fn judge_function(
     alloc: Global,
     function: &Function,
-    shows_goals: bool,
+    wanted: Wanted,
 ) -> Result<FunctionReport, NoMemory>
     ensures name { IfOk result (λ judged. judged.name ≡ function.now.name) }
-    ensures goals { IfOk result (λ judged. AreJudged shows_goals (calculus.goals (view_function function.now)) (map report.view_goal judged.goals)) }
+    ensures goals { IfOk result (λ judged. AreJudged (view_wanted wanted) (calculus.goals (view_function function.now)) (map report.view_goal judged.goals)) }
 {
     let name = function.name.copy(alloc)?;
     let asked = goals(alloc, function)?;
     let mut judged = List::new(alloc);
     for goal in asked.as_slice() {
-        judged.push(judge(alloc, goal, shows_goals)?)?;
+        judged.push(judge(alloc, goal, wanted)?)?;
     }
     Ok(FunctionReport {
         name,
@@ -73,14 +75,14 @@ fn judge_function(
     })
 }
 
-/// What is reported of a program: each function's goals, called proved exactly where their normal
-/// form is `true`, and with their texts where they are to be shown.
-pub fn judge_program(alloc: Global, core: &Core, shows_goals: bool) -> Result<Report, NoMemory>
-    ensures { IfOk result (λ judged. IsReportOf shows_goals (view_program core.now) (report.view_report judged)) }
+/// What is reported of a program: each function's goals with their verdicts, as far as they are to be decided, and with their texts
+/// where they are to be shown.
+pub fn judge_program(alloc: Global, core: &Core, wanted: Wanted) -> Result<Report, NoMemory>
+    ensures { IfOk result (λ judged. IsReportOf (view_wanted wanted) (view_program core.now) (report.view_report judged)) }
 {
     let mut functions = List::new(alloc);
     for function in core.functions.as_slice() {
-        functions.push(judge_function(alloc, function, shows_goals)?)?;
+        functions.push(judge_function(alloc, function, wanted)?)?;
     }
     Ok(Report { functions })
 }

@@ -21,9 +21,7 @@ fn run(rt: HostRuntime) -> Status {
 // What is said on standard error.
 fn text_of(status: Status) -> &'static str {
     match status {
-        Status::Usage => {
-            "usage: wp [--machdep NAME] [--fuel N] [--branches N] [--goals] FILE"
-        }
+        Status::Usage => { "usage: wp [--machdep NAME] [--fuel N] [--branches N] [--goals] FILE" }
         Status::AllProved
         | Status::SomeUnknown
         | Status::Refused

@@ -118,13 +118,7 @@ pub fn wp_main<F: Files, K: Sink>(
     let Some(command) = command_of(words) else {
         return Status::Usage;
     };
-    let answer = match file_answer(
-        alloc,
-        files,
-        command.file,
-        command.model,
-        command.wanted,
-    ) {
+    let answer = match file_answer(alloc, files, command.file, command.model, command.wanted) {
         Ok(answer) => answer,
         Err(Unread::ReadFault) => return Status::ReadFault,
         Err(Unread::NoMemory) => return Status::NoMemory,

@@ -2,8 +2,8 @@
 //! that it is given is a kind of inputs and how many of them are tried, or a branch as the text of a goal.
 #![tactic(auto)]
 
-mod branches;
 mod changes;
+mod closed;
 mod closing;
 mod dice;
 mod forms;
@@ -15,8 +15,8 @@ mod slow;
 mod stored;
 mod trees;
 
-use branches::try_branches;
 use changes::put_changed;
+use closed::try_branches;
 use links::try_links;
 use std::alloc::Global;
 use std::io;

@@ -1,7 +1,7 @@
-use Rattle.std.proofs.Common.{ap, Err}
+use Rattle.std.proofs.Common.{ap, sym, subst, Err}
 use Rattle.core_prog.specs.View.{view_program}
 use Rattle.wp_words.specs.CommandView.{view_wanted}
-use Rattle.wp_cli.specs.Answers.{faulty}
+use Rattle.wp_cli.specs.Answers.{HasFault, faulty}
 use Rattle.wp_cli.proofs.Answering.{report_answers_ok, refusal_answers}
 use Rattle.wp_cli.proofs.answer.text_answer.Goals as goal
 
@@ -11,5 +11,6 @@ returns-in-Ok c = report_answers_ok c.args.model (view_wanted c.args.wanted) c.a
 pub returns-in-Err-Refused : goal.returns-in-Err-Refused
 returns-in-Err-Refused c =
     let refusal = c.in-Err-Refused.refusal in
-    refusal_answers c.args.model (view_wanted c.args.wanted) c.args.text.now refusal c.refusal_answer.result c.refusal_answer.ensures.status c.refusal_answer.ensures.text
-    (faulty refusal c.requires (c.in-Err-Refused.ensures.refused refusal (ap Err c.in-Err-Refused.field-0-is)))
+    let fault = faulty refusal c.requires (c.in-Err-Refused.ensures.refused refusal (ap Err c.in-Err-Refused.field-0-is)) in
+    refusal_answers c.args.model (view_wanted c.args.wanted) c.args.text.now _ c.refusal_answer.result c.refusal_answer.ensures.status c.refusal_answer.ensures.text
+    (subst (HasFault c.args.model c.args.text.now) (sym c.in-Err-Refused.refusal-is) fault)

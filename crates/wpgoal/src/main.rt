@@ -23,7 +23,7 @@ fn text_of(status: Status) -> &'static str {
     match status {
         Status::AllProved | Status::SomeUnknown | Status::Refused => "",
         Status::Usage =>
-            "usage: wpgoal [--normal | --machdep NAME | --fuel N | --branches N | --goals]... FILE",
+            "usage: wpgoal --normal FILE, or wpgoal [--machdep NAME] [--fuel N] [--branches N] [--goals] FILE",
         Status::ReadFault => "wpgoal: cannot read",
         Status::WriteFault => "wpgoal: cannot write",
         Status::NoMemory => "wpgoal: out of memory",

@@ -12,7 +12,7 @@ use Rattle.acsl_truth.specs.States.{Value, State, World}
 use Rattle.acsl_truth.specs.Truth.{Calls}
 use Rattle.qed_terms.specs.Tree.{Tree as Term, trees_of}
 use Rattle.qed_terms.specs.Meaning.{Values, World as Logic, Whole, Cells, meaning, meanings}
-use Rattle.acsl_encode.specs.Readings.{Pointer, at, Named, one, two, Global, integer_global, pointer_global, Called, Terms, Slot, whole, pointer, home}
+use Rattle.acsl_encode.specs.Readings.{Pointer, at, Named, one, two, Global, integer_global, pointer_global, Called, Terms, Slot, whole, any_integer, pointer, home}
 use Rattle.acsl_encode.specs.Readings.{absent, Seen, Common, Reading}
 use Rattle.acsl_encode.specs.Encode as encode
 use Rattle.acsl_encode.specs.Encode.{as_integer, as_pointer, put, all_put, two_parts, argument, arguments, memory_of, integer_of, pointer_in, global_of}
@@ -104,6 +104,7 @@ module _ (q : Logic) (env : Values) where
         by true wide =
             (number_in q env t, (e.0, e.1.0), held_by_wider r.model k l (number_in q env t) wide e.1.1, ap (λ a. a ∷ []) (int_means q env t g.int))
         by false wide = tt
+    integer_gives n k x (any_integer t) e g = tt
     integer_gives n k x (pointer b o) e g = tt
     integer_gives n k x (home b) e g = tt
     integer_gives n k x absent e g = tt
@@ -111,6 +112,7 @@ module _ (q : Logic) (env : Values) where
     pointer_gives : (n : ℕ) (x y : List ℕ) (o : Slot) → SlotStands q r env (variables.Global n) o st → SlotFits o → Give
         (IsGlobal r st (pointer_global n x y)) (pointer_in o)
     pointer_gives n x y (whole l t) e g = tt
+    pointer_gives n x y (any_integer t) e g = tt
     pointer_gives n x y (pointer b o) e g =
         (number_in q env b, number_in q env o, (e.0, e.1.0), e.1.1, two_means (at b o) g)
     pointer_gives n x y (home b) e g = tt

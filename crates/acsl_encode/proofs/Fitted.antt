@@ -205,12 +205,14 @@ integer_given m k (reading.whole l t) h = by (holds_all m k l)
     by : (b : Bool) → Holds AllGiven (if b then Some (t ∷ []) else None)
     by true = (h.argument, tt)
     by false = tt
+integer_given m k (reading.any_integer t) h = tt
 integer_given m k (reading.pointer b o) h = tt
 integer_given m k (reading.home b) h = tt
 integer_given m k reading.absent h = tt
 
 pointer_given : (s : Slot) → SlotFits s → Holds AllGiven (encode.pointer_in s)
 pointer_given (reading.whole l t) h = tt
+pointer_given (reading.any_integer t) h = tt
 pointer_given (reading.pointer b o) h = (h.0.argument, (h.1.argument, tt))
 pointer_given (reading.home b) h = tt
 pointer_given reading.absent h = tt

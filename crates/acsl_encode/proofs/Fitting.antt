@@ -16,7 +16,7 @@ use Rattle.qed_terms.specs.declared.head.TermOp.TheVariants as op
 use Rattle.qed_terms.specs.Tree.{Tree as Term, trees_of, num, ite, not_of, imp_of}
 use Rattle.qed_terms.specs.WellFormed.{fits, all_fit, each, kid_count, int, mem, formula}
 use Rattle.acsl_encode.specs.Readings as reading
-use Rattle.acsl_encode.specs.Readings.{Pointer, at, Terms, integer, address, variable, elements, region, nothing, Slot, whole, pointer, home, absent, Seen}
+use Rattle.acsl_encode.specs.Readings.{Pointer, at, Terms, integer, address, variable, elements, region, nothing, Slot, whole, any_integer, pointer, home, absent, Seen}
 use Rattle.acsl_encode.specs.Readings.{Reading}
 use Rattle.acsl_encode.specs.Readings.{seen_at, seen_in}
 use Rattle.acsl_encode.specs.Encode as encode
@@ -191,20 +191,24 @@ on_two p p' f None o' h k made = tt
 
 pub variable_fits : (x : Variable) (s : Slot) → SlotFits s → TermsFit (encode.of_variable x s)
 variable_fits x (whole k t) h = tt
+variable_fits x (any_integer t) h = tt
 variable_fits x (pointer b o) h = tt
 variable_fits x (home b) h = (h, number_fits (pos 0))
 variable_fits x absent h = tt
 
 held_fits : (c : Content) (s : Slot) → SlotFits s → TermsFit (encode.held c s)
 held_fits (content.Integer k) (whole l t) h = h
+held_fits (content.Integer k) (any_integer t) h = h
 held_fits content.Pointer (pointer b o) h = h
 held_fits (content.Integer k) (pointer b o) h = tt
 held_fits (content.Integer k) (home b) h = tt
 held_fits (content.Integer k) absent h = tt
 held_fits content.Pointer (whole l t) h = tt
+held_fits content.Pointer (any_integer t) h = tt
 held_fits content.Pointer (home b) h = tt
 held_fits content.Pointer absent h = tt
 held_fits (content.Struct n) (whole l t) h = tt
+held_fits (content.Struct n) (any_integer t) h = tt
 held_fits (content.Struct n) (pointer b o) h = tt
 held_fits (content.Struct n) (home b) h = tt
 held_fits (content.Struct n) absent h = tt

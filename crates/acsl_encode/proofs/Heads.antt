@@ -18,7 +18,7 @@ use Rattle.acsl_truth.specs.States.{Value, State, World, number_of, block_of, of
 use Rattle.qed_terms.specs.Tree.{Tree as Term, ite}
 use Rattle.qed_terms.specs.Meaning.{Values, World as Logic}
 use Rattle.acsl_encode.specs.Readings as reading
-use Rattle.acsl_encode.specs.Readings.{Pointer, at, Terms, integer, address, variable, elements, region, nothing, Slot, whole, pointer, home, absent, Seen}
+use Rattle.acsl_encode.specs.Readings.{Pointer, at, Terms, integer, address, variable, elements, region, nothing, Slot, whole, any_integer, pointer, home, absent, Seen}
 use Rattle.acsl_encode.specs.Readings.{Reading}
 use Rattle.acsl_encode.specs.Readings.{seen_at, seen_in}
 use Rattle.acsl_encode.specs.Encode as encode
@@ -44,6 +44,7 @@ module _ (q : Logic) (r : Reading) (env : Values) where
   pub variable_means : (x : Variable) (s : Slot) (st : State) → SlotStands q r.common env x s st → M (encode.of_variable x s)
       (state.pointer (st.home x) (pos 0))
   variable_means x (whole k t) st h = ap (λ b. state.pointer b (pos 0)) h.0
+  variable_means x (any_integer t) st h = ap (λ b. state.pointer b (pos 0)) h.0
   variable_means x (pointer b o) st h = ap (λ b. state.pointer b (pos 0)) h.0
   variable_means x (home b) st h = (ap (λ b. state.pointer b (pos 0)) h.0, h.1)
   variable_means x absent st h = tt
@@ -51,14 +52,17 @@ module _ (q : Logic) (r : Reading) (env : Values) where
   held_means : (c : Content) (x : Variable) (s : Slot) (st : State) → is_negative (r.common.hidden x) ≡ true → SlotStands q r.common env x s st
       → M (encode.held c s) (state.read c st (state.pointer (r.common.hidden x) (pos 0)))
   held_means (content.Integer k) x (whole l t) st e h = (hidden_held (cell.Of k) st (r.common.hidden x) (pos 0) e ∙ ap (of_kind (cell.Of k)) h.1.0, h.1.1)
+  held_means (content.Integer k) x (any_integer t) st e h = (hidden_held (cell.Of k) st (r.common.hidden x) (pos 0) e ∙ ap (of_kind (cell.Of k)) h.1.0, tt)
   held_means content.Pointer x (pointer b o) st e h = (hidden_held cell.Ptr st (r.common.hidden x) (pos 0) e ∙ ap (of_kind cell.Ptr) h.1.0, h.1.1)
   held_means (content.Integer k) x (pointer b o) st e h = tt
   held_means (content.Integer k) x (home b) st e h = tt
   held_means (content.Integer k) x absent st e h = tt
   held_means content.Pointer x (whole l t) st e h = tt
+  held_means content.Pointer x (any_integer t) st e h = tt
   held_means content.Pointer x (home b) st e h = tt
   held_means content.Pointer x absent st e h = tt
   held_means (content.Struct n) x (whole l t) st e h = tt
+  held_means (content.Struct n) x (any_integer t) st e h = tt
   held_means (content.Struct n) x (pointer b o) st e h = tt
   held_means (content.Struct n) x (home b) st e h = tt
   held_means (content.Struct n) x absent st e h = tt

@@ -58,6 +58,7 @@ module _ (q : Logic) (names : Spelled) (b : Binders) (is : (n : ℕ) → b n ≡
 
     slot_stands : (x : Variable) (s : Slot) (st : State) → SlotUnmarked s → SlotStands q r env x s st → SlotStands q r env' x s st
     slot_stands x (reading.whole k t) st u h = (h.0, terms_stand (integer (Some k) t) (st.cells (r.hidden x) (pos 0)) u h.1)
+    slot_stands x (reading.any_integer t) st u h = (h.0, terms_stand (integer None t) (st.cells (r.hidden x) (pos 0)) u h.1)
     slot_stands x (pointer b o) st u h = (h.0, terms_stand (address b o) (st.cells (r.hidden x) (pos 0)) u h.1)
     slot_stands x (home b) st u h = let p = number_same b u in (h.0 ∙ p, subst HasAddress p h.1)
     slot_stands x absent st u h = tt

@@ -32,7 +32,7 @@ use Rattle.qed_terms.specs.declared.head.TermOp.TheVariants as op
 use Rattle.qed_terms.specs.Tree as tree
 use Rattle.qed_terms.specs.Tree.{Tree as Term, num, var, true_tree, at_most, less, equal, ite, not_of, and_of, or_of, imp_of}
 use Rattle.acsl_encode.specs.Readings.{Pointer, at, Named, one, two, Global, integer_global, pointer_global, Called, Terms, integer, truth, address, variable}
-use Rattle.acsl_encode.specs.Readings.{nothing, Slot, whole, pointer, home, absent, Seen, Reading, moved_to, seen_in, elements, region, Common}
+use Rattle.acsl_encode.specs.Readings.{nothing, Slot, whole, any_integer, pointer, home, absent, Seen, Reading, moved_to, seen_in, elements, region, Common}
 
 -- ---- terms and formulas
 
@@ -156,12 +156,14 @@ last_of xs = terms_at xs (length xs - 1)
 
 abbrev pub of_variable : Variable → Slot → Terms
 of_variable x (whole k t) = variable x
+of_variable x (any_integer t) = variable x
 of_variable x (pointer b o) = variable x
 of_variable x (home b) = address b (num (pos 0))
 of_variable x absent = nothing
 
 abbrev pub held : Content → Slot → Terms
 held (content.Integer k) (whole l t) = integer (Some l) t
+held (content.Integer k) (any_integer t) = unbounded t
 held content.Pointer (pointer b o) = address b o
 held _ _ = nothing
 

@@ -10,7 +10,7 @@ use Rattle.acsl_truth.specs.States.{Value, World, number_of}
 use Rattle.acsl_truth.specs.Truth.{calls_of, named, holds, value}
 use Rattle.qed_terms.specs.Tree.{Tree as Term}
 use Rattle.qed_terms.specs.Meaning.{Values, World as Logic}
-use Rattle.acsl_encode.specs.Readings.{Terms, integer, truth, address, variable, elements, region, nothing, Pointer, Slot, whole, pointer, home, absent, Seen}
+use Rattle.acsl_encode.specs.Readings.{Terms, integer, truth, address, variable, elements, region, nothing, Pointer, Slot, whole, any_integer, pointer, home, absent, Seen}
 use Rattle.acsl_encode.specs.Readings.{Reading}
 use Rattle.acsl_encode.specs.Encode.{terms_of, term_of, formula_of, pointer_of}
 use Rattle.acsl_encode.specs.Meaning.{Holds, number_in, is_so_in, IsStretch, Stands}
@@ -31,6 +31,7 @@ TermsUnmarked nothing = Unit {0}
 
 abbrev pub SlotUnmarked : Slot → Type 0
 SlotUnmarked (whole k t) = IsUnmarked t
+SlotUnmarked (any_integer t) = IsUnmarked t
 SlotUnmarked (pointer b o) = IsUnmarked b × IsUnmarked o
 SlotUnmarked (home b) = IsUnmarked b
 SlotUnmarked absent = Unit {0}

@@ -15,7 +15,7 @@ use Rattle.qed_terms.specs.Tree.{Tree as Term}
 use Rattle.qed_terms.specs.Memory.{Memory, load}
 use Rattle.qed_terms.specs.Meaning as meant
 use Rattle.qed_terms.specs.Meaning.{Values, World as Logic, meaning}
-use Rattle.acsl_encode.specs.Readings.{Terms, integer, truth, address, variable, elements, region, nothing, Slot, whole, pointer, home, absent, Seen, Common}
+use Rattle.acsl_encode.specs.Readings.{Terms, integer, truth, address, variable, elements, region, nothing, Slot, whole, any_integer, pointer, home, absent, Seen, Common}
 use Rattle.acsl_encode.specs.Readings.{Reading}
 
 -- of what is there
@@ -78,6 +78,7 @@ Means q r env nothing v = Unit {0}
 -- A variable that no pointer leads to has one cell, of a block without an address.
 abbrev pub SlotStands : Logic → Common → Values → Variable → Slot → State → Type 0
 SlotStands q r env x (whole k t) s = (s.home x ≡ r.hidden x) × Means q r env (integer (Some k) t) (s.cells (r.hidden x) (pos 0))
+SlotStands q r env x (any_integer t) s = (s.home x ≡ r.hidden x) × Means q r env (integer None t) (s.cells (r.hidden x) (pos 0))
 SlotStands q r env x (pointer b o) s = (s.home x ≡ r.hidden x) × Means q r env (address b o) (s.cells (r.hidden x) (pos 0))
 SlotStands q r env x (home b) s = (s.home x ≡ number_in q env b) × HasAddress (number_in q env b)
 SlotStands q r env x absent s = Unit {0}

@@ -32,9 +32,10 @@ at b o = record { block = b; offset = o }
 
 -- ---- states
 
--- A variable: what it holds, where no pointer leads to it, an integer of a kind or a pointer; else its block; or nothing is known of it.
+-- A variable: what it holds, where no pointer leads to it, an integer of a kind, one of any size or a pointer; else its block; or nothing is known of it.
 pub data Slot : Type 0 where
   whole : (k : Kind) (t : Term) → Slot
+  any_integer : (t : Term) → Slot
   pointer : (block offset : Term) → Slot
   home : (block : Term) → Slot
   absent : Slot

@@ -6,7 +6,7 @@ use Rattle.acsl_trees.specs.Tree.{Tree}
 use Rattle.qed_terms.specs.Tree.{Tree as Term, var}
 use Rattle.qed_terms.specs.Names.{is_name}
 use Rattle.qed_terms.specs.WellFormed.{fits, int, mem, tab, formula, argument}
-use Rattle.acsl_encode.specs.Readings.{Called, Terms, integer, truth, address, variable, elements, region, nothing, Pointer, Slot, whole, pointer, home}
+use Rattle.acsl_encode.specs.Readings.{Called, Terms, integer, truth, address, variable, elements, region, nothing, Pointer, Slot, whole, any_integer, pointer, home}
 use Rattle.acsl_encode.specs.Readings.{absent, Seen}
 use Rattle.acsl_encode.specs.Readings.{Reading}
 use Rattle.acsl_encode.specs.Meaning.{Holds}
@@ -39,6 +39,7 @@ TermsFit nothing = Unit {0}
 
 abbrev pub SlotFits : Slot → Type 0
 SlotFits (whole k t) = IsInt t
+SlotFits (any_integer t) = IsInt t
 SlotFits (pointer b o) = IsInt b × IsInt o
 SlotFits (home b) = IsInt b
 SlotFits absent = Unit {0}

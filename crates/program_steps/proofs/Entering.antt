@@ -47,6 +47,7 @@ use Rattle.program_steps.specs.Standing.{SeenBy, FailsAs}
 use Rattle.program_steps.specs.Typed.{ClaimFits}
 use Rattle.program_steps.specs.Placed.{InSetting}
 use Rattle.program_steps.specs.Functions.{AllOf, EntersAs, FunctionEnds, function_word}
+use Rattle.program_steps.specs.Typed.{OtherFits}
 use Rattle.program_steps.specs.Starting.{file_origins, own_origins, zero_origins, origins_of, range_trees, file_ranges, param_ranges, start_claim, start_assumed, required_trees, all_required, start_trees, start_of, BehaviorStarts, StartFits}
 use Rattle.program_steps.specs.Laws.{StartsEnter, FalsifiedFail}
 use Rattle.program_steps.proofs.Filling.{on_bool}
@@ -389,21 +390,21 @@ stops_so : (p : Facts) (s : Shape) (ps : List Place) (o : Eval) (i : ℕ) → Fu
 stops_so p s ps (gives v u) i h = absurd h
 stops_so p s ps (stops e) i h = (e, (refl, h))
 
-pub falsified_fail : FalsifiedFail
-falsified_fail setting q n f temporaries temp_kind texts others bases in_setting fits starts good enough size names differ g listed env untrue =
+pub falsified_fail : (asked : OtherFits) → FalsifiedFail asked
+falsified_fail asked setting q n f temporaries temp_kind texts others bases runs in_setting fits starts good enough size names differ g listed env untrue =
     let m = world_of setting in
     let s = shape_of f temporaries temp_kind in
-    let word = function_word m q.facts s texts others f in
+    let word = function_word m q.facts s texts others n f in
     let fit : AreFit setting bases (start_of m q.facts s texts f) word = record {
       size = size;
       names = names;
       own = differ;
       facts = forms_all m (start_trees m q.facts s texts f);
-      step = functions_are_good m q.facts s texts others good f;
+      step = functions_are_good m q.facts s texts others good n f;
     } in
     let st = state_of m env (start_slots bases (origins_of m q.facts s texts f.params)) in
     let run = falsified_decode setting bases (start_of m q.facts s texts f) word fit g listed env untrue in
     let world = starts_enter m q f temporaries temp_kind texts in_setting enough starts st run.0 in
-    let r = back m q n f temporaries temp_kind texts others in_setting fits world.0 world.1.0 st world.1.1.1 (fails g.number) run.1 in
+    let r = back m q n f temporaries temp_kind texts others asked runs in_setting fits world.0 world.1.0 st world.1.1.1 (fails g.number) run.1 in
     let x = stops_so q.facts s (places word) r.0 g.number r.2 in
     (world.0, (world.1.0, (world.1.1.0, (x.0, (subst (FunctionSeg q n f world.0 world.1.0) (sym x.1.0) r.1, x.1.1)))))

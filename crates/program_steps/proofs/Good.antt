@@ -136,10 +136,10 @@ module _ (m : sense.World) where
     ending_good (Some k) l = ((good_form m false_tree, tt), tt)
 
 pub functions_are_good : FunctionsAreGood
-functions_are_good m p s texts others good f = (
+functions_are_good m p s texts others good n f = (
   togethers_good m p s texts f.contract.behaviors (in_order f.contract.together),
   (
-    (steps_good m p s texts f.contract others good f.body body_point no_temporaries, ending_good m p s texts f.result f.end),
+    (steps_good m p s texts f.contract others good f.body (body_point n) no_temporaries, ending_good m p s texts f.result f.end),
     are_append m (ensure_checks m p s texts true f.contract.plain) (all_ensured m p s texts f.contract.behaviors) (ensures_good m p s texts true f.contract.plain f.contract.plain.ensures)
         (ensured_good m p s texts f.contract.behaviors),
   ),

@@ -66,7 +66,7 @@ use Rattle.program_steps.specs.Terms.{Texts, reading, body_reading, or_none, cla
 use Rattle.program_steps.specs.Words as word
 use Rattle.program_steps.specs.Words.{Point, Others, items_step, ask_all, set_variable, write_trees, variable_number, store_to}
 use Rattle.program_steps.specs.Standing.{StandsFor, SeenAs, SeenBy, FailsAs, ReturnsIt, Ends}
-use Rattle.program_steps.specs.Typed.{is_closed_item, ValueFits, ClaimFits, WordFits}
+use Rattle.program_steps.specs.Typed.{is_closed_item, ValueFits, ClaimFits, OtherFits, WordFits}
 use Rattle.program_steps.specs.Placed.{InSetting, all_told, Placed, BothWays}
 use Rattle.program_steps.proofs.Filling.{on_bool}
 use Rattle.program_steps.proofs.Listing.{put_same, comes, fails_first, fails_second}
@@ -137,7 +137,7 @@ asks_first one two (c ∷ cs) same h = by h refl (asks_first one two cs same) wh
     no : {X : Type 0} {x : X} → Some x ≡ None → ⊥
     no e = cc
 
-module _ (m : sense.World) (q : Program Steps) (s : Shape) (texts : Texts) (contract : Contract) (others : Others) (setting : InSetting m q.facts s) where
+module _ (m : sense.World) (q : Program Steps) (s : Shape) (texts : Texts) (contract : Contract) (others : Others) (asked : OtherFits) (setting : InSetting m q.facts s) where
   abbrev p : Facts
   p = q.facts
 
@@ -203,7 +203,7 @@ module _ (m : sense.World) (q : Program Steps) (s : Shape) (texts : Texts) (cont
       by false true k = absurd (differ ((Decides-eqb n' j).0 k))
       by false false k = h
 
-    set_both : (cs : List Check) (k : ℕ) (e : t.Value) → WordFits m p s texts i pt.outs f (core.set cs k e) → StandsFor p s t0 i (live (core.set cs k e) pt.outs f) c st
+    set_both : (cs : List Check) (k : ℕ) (e : t.Value) → WordFits m p s texts asked i pt.outs f (core.set cs k e) → StandsFor p s t0 i (live (core.set cs k e) pt.outs f) c st
         → BothWays (λ o. exec.exec q no_deeper s.variables here (core.set cs k e) c ≡ o) (EndsAt (word_at pt (core.set cs k e) f) n) olds n (word_at pt (core.set cs k e) f) st
     set_both cs k e fits stands = behind_value (live (core.set cs k e) pt.outs f) e (s.temp_kind k) stands fits.1 b (run.goes_on (with_temp k (total_of e) c)) tail cs fits.2 where
       b : Step
@@ -302,7 +302,7 @@ module _ (m : sense.World) (q : Program Steps) (s : Shape) (texts : Texts) (cont
       either_way (to_local x y r steps found kind scoped) after value n' = local_way x y r found kind scoped after value n'
       either_way (to_global x y r steps found kind) after value n' = global_way x y r steps found kind after value n'
 
-    store_both : (cs : List Check) (type : CoreType) (l : ℕ) (path : Path) (e : t.Value) → WordFits m p s texts i pt.outs f (core.store cs type l path (t.more e t.stop))
+    store_both : (cs : List Check) (type : CoreType) (l : ℕ) (path : Path) (e : t.Value) → WordFits m p s texts asked i pt.outs f (core.store cs type l path (t.more e t.stop))
         → StandsFor p s t0 i (live (core.store cs type l path (t.more e t.stop)) pt.outs f) c st
         → BothWays (λ o. exec.exec q no_deeper s.variables here (core.store cs type l path (t.more e t.stop)) c ≡ o)
         (EndsAt (word_at pt (core.store cs type l path (t.more e t.stop)) f) n) olds n (word_at pt (core.store cs type l path (t.more e t.stop)) f) st
@@ -321,7 +321,7 @@ module _ (m : sense.World) (q : Program Steps) (s : Shape) (texts : Texts) (cont
 
     -- ---- a variable's first value
 
-    start_both : (cs : List Check) (x : ℕ) (e : t.Value) → WordFits m p s texts i pt.outs f (core.start cs x e) → StandsFor p s t0 i (live (core.start cs x e) pt.outs f) c st
+    start_both : (cs : List Check) (x : ℕ) (e : t.Value) → WordFits m p s texts asked i pt.outs f (core.start cs x e) → StandsFor p s t0 i (live (core.start cs x e) pt.outs f) c st
         → BothWays (λ o. exec.exec q no_deeper s.variables here (core.start cs x e) c ≡ o) (EndsAt (word_at pt (core.start cs x e) f) n) olds n (word_at pt (core.start cs x e) f) st
     start_both cs x e (k, (y, found, kind, scoped), fits, same) stands =
         behind_value (live (core.start cs x e) pt.outs f) e k stands fits b (run.goes_on (in_world c (initial_act s.variables x (total_of e) c.world))) tail cs same
@@ -368,7 +368,7 @@ module _ (m : sense.World) (q : Program Steps) (s : Shape) (texts : Texts) (cont
         no : {X : Type 0} {x : X} → None ≡ Some x → ⊥
         no e = cc
 
-    give_value : (cs : List Check) (e : t.Value) → WordFits m p s texts i pt.outs f (core.give cs (Some e)) → StandsFor p s t0 i (live (core.give cs (Some e)) pt.outs f) c st
+    give_value : (cs : List Check) (e : t.Value) → WordFits m p s texts asked i pt.outs f (core.give cs (Some e)) → StandsFor p s t0 i (live (core.give cs (Some e)) pt.outs f) c st
         → BothWays (λ o. exec.exec q no_deeper s.variables here (core.give cs (Some e)) c ≡ o) (EndsAt (word_at pt (core.give cs (Some e)) f) n) olds n
         (word_at pt (core.give cs (Some e)) f) st
     give_value cs e (k, result, fits, same) stands = behind_value (live (core.give cs (Some e)) pt.outs f) e k stands fits b (run.returns (total_of e) c) tail cs same where
@@ -402,7 +402,7 @@ module _ (m : sense.World) (q : Program Steps) (s : Shape) (texts : Texts) (cont
 
     -- ---- assertions
 
-    claim_both : (a : Claim) → WordFits m p s texts i pt.outs f (core.claim a) → StandsFor p s t0 i f c st
+    claim_both : (a : Claim) → WordFits m p s texts asked i pt.outs f (core.claim a) → StandsFor p s t0 i f c st
         → BothWays (λ o. exec.exec q no_deeper s.variables here (core.claim a) c ≡ o) (EndsAt (word_at pt (core.claim a) f) n) olds n (word_at pt (core.claim a) f) st
     claim_both a fits stands =
         let x = fits 0 (suc pt.entry) (suc pt.loop_entry) in
@@ -440,12 +440,12 @@ module _ (m : sense.World) (q : Program Steps) (s : Shape) (texts : Texts) (cont
 
     -- ---- all of them
 
-    pub single_both : (a : core.Step) → is_single a ≡ true → WordFits m p s texts i pt.outs f a → StandsFor p s t0 i (live a pt.outs f) c st
+    pub single_both : (a : core.Step) → is_single a ≡ true → WordFits m p s texts asked i pt.outs f a → StandsFor p s t0 i (live a pt.outs f) c st
         → BothWays (segs.Seg q s.variables here a c) (EndsAt (word_at pt a f) n) olds n (word_at pt a f) st
     single_both (core.set cs k e) is fits stands = of_single here (core.set cs k e) c refl (set_both cs k e fits stands)
     single_both (core.store cs type l path t.stop) is fits stands = absurd fits
     single_both (core.store cs type l path (t.more e t.stop)) is fits stands = of_single here (core.store cs type l path (t.more e t.stop)) c refl (store_both cs type l path e fits stands)
-    single_both (core.store cs type l path (t.more e (t.more x es))) is fits stands = absurd fits
+    single_both (core.store cs type l path (t.more e (t.more x rest))) is fits stands = absurd fits
     single_both (core.start cs x e) is fits stands = of_single here (core.start cs x e) c refl (start_both cs x e fits stands)
     single_both (core.call cs to k l es) is fits stands = absurd (false≢true is)
     single_both (core.branch cs e x y) is fits stands = absurd (false≢true is)

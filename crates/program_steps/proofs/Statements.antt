@@ -1,4 +1,4 @@
--- Statements and their words, put together: no loop and no call stands in them.
+-- Statements and their words, put together; what loops and calls do is given.
 use Rattle.std.proofs.Common.{◌≡◌, ◌⊎◌, ℕ, zero, suc, ◌+◌, ℤ, pos, Bool, true, false, not, ◌&&◌, ◌||◌, List, [], ◌∷◌, Option, Some, None, refl, sym, ap, ◌∙◌, subst, inl, inr, arith}
 use Rattle.std.proofs.lemmas.Bool.{false≢true}
 use Rattle.wp_base.specs.Blocks.{Table}
@@ -37,10 +37,11 @@ use Rattle.program_steps.specs.Leaves.{is_closed, or_false, closed, leaves_of, f
 use Rattle.program_steps.specs.Temporaries.{Temporaries, no_temporaries, out_at, uses, live, all_live}
 use Rattle.program_steps.specs.Terms.{Texts, reading}
 use Rattle.program_steps.specs.Words as word
-use Rattle.program_steps.specs.Words.{Point, Others, in_block, items_step, arms, known_test, slots_of, all_opened}
+use Rattle.program_steps.specs.Words.{Point, Others, in_block, in_pass, items_step, arms, known_test, slots_of, all_opened}
 use Rattle.program_steps.specs.Standing.{StandsFor, Ends}
-use Rattle.program_steps.specs.Typed.{WordFits, AllFit}
+use Rattle.program_steps.specs.Typed.{OtherFits, WordFits, AllFit}
 use Rattle.program_steps.specs.Placed.{InSetting, Placed, BothWays}
+use Rattle.program_steps.specs.Others.{OthersRun}
 use Rattle.program_steps.proofs.Listing.{comes, fails_first, fails_second, fails_arm, fails_other}
 use Rattle.program_steps.proofs.Setting.{used_less}
 use Rattle.program_steps.proofs.Asking.{behind}
@@ -50,7 +51,8 @@ use Rattle.program_steps.proofs.Scoping.{enters, finds, AllIn, leaves_block, dec
 use Rattle.program_steps.proofs.Singles.{single_both}
 use Rattle.program_steps.proofs.Dropping.{goes_parts, over_ends, over_leaves, ends_else, goes_from, goes_to, block_out, dropped, behind_dropped}
 
-module _ (m : sense.World) (q : Program Steps) (s : Shape) (texts : Texts) (contract : Contract) (others : Others) (setting : InSetting m q.facts s) (t0 : Table) where
+module _ (m : sense.World) (q : Program Steps) (s : Shape) (texts : Texts) (contract : Contract) (others : Others) (asked : OtherFits)
+    (run_so : OthersRun m q s texts contract others asked) (setting : InSetting m q.facts s) (t0 : Table) where
   abbrev p : Facts
   p = q.facts
 
@@ -177,7 +179,13 @@ module _ (m : sense.World) (q : Program Steps) (s : Shape) (texts : Texts) (cont
   all_ways here a ss c o (segs.stays h l) = inr (h, l)
 
   placed_in : (here : Here) (pt : Point) (olds : List State) (f : Temporaries) → Placed m p s texts contract pt here olds → Placed m p s texts contract (in_block f pt) here olds
-  placed_in here pt olds f placed = record { entry = placed.entry; loop_entry = placed.loop_entry; locals = placed.locals; globals = placed.globals }
+  placed_in here pt olds f placed = record {
+    entry = placed.entry;
+    loop_entry = placed.loop_entry;
+    locals = placed.locals;
+    globals = placed.globals;
+    carried = record { function = placed.carried.function; measure = placed.carried.measure; granted = placed.carried.granted };
+  }
 
   -- ---- the end of a scope
 
@@ -269,7 +277,7 @@ module _ (m : sense.World) (q : Program Steps) (s : Shape) (texts : Texts) (cont
             behind_dropped m q s texts contract others setting t0 i pt.outs f (all_live b pt.outs f) c olds drop_b (steps_word pt b f) st r n' (segs.AllSeg q s.variables here b c)
             (for_b (n' + count drop_b) r.state r.stands)
 
-        branch_both : WordFits m p s texts i pt.outs f (core.branch cs e a b) → Both here pt olds i f n c st (core.branch cs e a b)
+        branch_both : WordFits m p s texts asked i pt.outs f (core.branch cs e a b) → Both here pt olds i f n c st (core.branch cs e a b)
         branch_both (k, fits, same, fits_a, fits_b) =
             after_items p s t0 i pt.outs f m olds st so is fits.items (says m p s setting i used c st stands olds e k fits) n (arms m (known_test e) test word_a word_b)
             (segs.Seg q s.variables here (core.branch cs e a b) c) Later
@@ -319,7 +327,7 @@ module _ (m : sense.World) (q : Program Steps) (s : Shape) (texts : Texts) (cont
 
     -- ---- scopes
 
-    module _ (ys : List ℕ) (ss : Steps) (fits : WordFits m p s texts i pt.outs f (core.scope ys ss)) (stands : StandsFor p s t0 i (all_live ss pt.outs f) c st)
+    module _ (ys : List ℕ) (ss : Steps) (fits : WordFits m p s texts asked i pt.outs f (core.scope ys ss)) (stands : StandsFor p s t0 i (all_live ss pt.outs f) c st)
         (for_body : (n' : ℕ) (w : World) (st' : State) → StandsFor p s t0 (with_names ys i) (all_live ss pt.outs f) (in_world c w) st'
         → AllBoth here pt olds (with_names ys i) f n' (in_world c w) st' ss) where
       abbrev open_word : Step
@@ -458,26 +466,28 @@ module _ (m : sense.World) (q : Program Steps) (s : Shape) (texts : Texts) (cont
 
   mutual
     pub step_both : (a : core.Step) (here : Here) (pt : Point) (olds : List State) → Placed m p s texts contract pt here olds → (i : ℕ → Bool) (f : Temporaries) (n : ℕ) (c : CoreWorld) (st : State)
-        → WordFits m p s texts i pt.outs f a → StandsFor p s t0 i (live a pt.outs f) c st → Both here pt olds i f n c st a
-    step_both (core.set cs k e) here pt olds placed i f n c st fits stands = single_both m q s texts contract others setting t0 here pt olds placed i f n c st (core.set cs k e) refl fits stands
+        → WordFits m p s texts asked i pt.outs f a → StandsFor p s t0 i (live a pt.outs f) c st → Both here pt olds i f n c st a
+    step_both (core.set cs k e) here pt olds placed i f n c st fits stands = single_both m q s texts contract others asked setting t0 here pt olds placed i f n c st (core.set cs k e) refl fits stands
     step_both (core.store cs type l path es) here pt olds placed i f n c st fits stands =
-        single_both m q s texts contract others setting t0 here pt olds placed i f n c st (core.store cs type l path es) refl fits stands
-    step_both (core.start cs x e) here pt olds placed i f n c st fits stands = single_both m q s texts contract others setting t0 here pt olds placed i f n c st (core.start cs x e) refl fits stands
-    step_both (core.call cs to k l es) here pt olds placed i f n c st fits stands = absurd fits
+        single_both m q s texts contract others asked setting t0 here pt olds placed i f n c st (core.store cs type l path es) refl fits stands
+    step_both (core.start cs x e) here pt olds placed i f n c st fits stands = single_both m q s texts contract others asked setting t0 here pt olds placed i f n c st (core.start cs x e) refl fits stands
+    step_both (core.call cs to k l es) here pt olds placed i f n c st fits stands = run_so.call setting t0 here pt olds placed i f cs to k l es fits n c st stands
     step_both (core.branch cs e a b) here pt olds placed i f n c st fits stands =
         branch_both here pt olds i f n c st cs e a b stands (λ n' st' h. all_both a here pt olds placed i f n' c st' fits.3 h)
         (λ n' st' h. all_both b here pt olds placed i f n' c st' fits.4 h) fits
-    step_both (core.repeat l ss) here pt olds placed i f n c st fits stands = absurd fits
+    step_both (core.repeat l ss) here pt olds placed i f n c st fits stands =
+        run_so.loop setting t0 here pt olds placed i f l ss fits.0 (steps_word (in_pass l pt) ss no_temporaries)
+        (λ here olds placed n c st h. all_both ss here (in_pass l pt) olds placed i no_temporaries n c st fits.1 h) n c st stands
     step_both (core.around ss) here pt olds placed i f n c st fits stands =
         around_both here pt olds i f n c st ss (all_both ss here (in_block f pt) olds (placed_in here pt olds f placed) i f n c st fits stands)
-    step_both (core.exit k) here pt olds placed i f n c st fits stands = single_both m q s texts contract others setting t0 here pt olds placed i f n c st (core.exit k) refl fits stands
-    step_both (core.give cs e) here pt olds placed i f n c st fits stands = single_both m q s texts contract others setting t0 here pt olds placed i f n c st (core.give cs e) refl fits stands
-    step_both (core.claim a) here pt olds placed i f n c st fits stands = single_both m q s texts contract others setting t0 here pt olds placed i f n c st (core.claim a) refl fits stands
+    step_both (core.exit k) here pt olds placed i f n c st fits stands = single_both m q s texts contract others asked setting t0 here pt olds placed i f n c st (core.exit k) refl fits stands
+    step_both (core.give cs e) here pt olds placed i f n c st fits stands = single_both m q s texts contract others asked setting t0 here pt olds placed i f n c st (core.give cs e) refl fits stands
+    step_both (core.claim a) here pt olds placed i f n c st fits stands = single_both m q s texts contract others asked setting t0 here pt olds placed i f n c st (core.claim a) refl fits stands
     step_both (core.scope ys ss) here pt olds placed i f n c st fits stands =
         scope_both here pt olds i f n c st ys ss fits stands (λ n' w st' h. all_both ss here pt olds placed (with_names ys i) f n' (in_world c w) st' fits.1 h)
 
     pub all_both : (ss : Steps) (here : Here) (pt : Point) (olds : List State) → Placed m p s texts contract pt here olds → (i : ℕ → Bool) (f : Temporaries) (n : ℕ) (c : CoreWorld) (st : State)
-        → AllFit m p s texts i pt.outs f ss → StandsFor p s t0 i (all_live ss pt.outs f) c st → AllBoth here pt olds i f n c st ss
+        → AllFit m p s texts asked i pt.outs f ss → StandsFor p s t0 i (all_live ss pt.outs f) c st → AllBoth here pt olds i f n c st ss
     all_both core.end here pt olds placed i f n c st fits stands = end_both here pt olds i f n c st stands
     all_both (core.then_ a ss) here pt olds placed i f n c st fits stands =
         then_both here pt olds i f n c st a ss (step_both a here pt olds placed i (all_live ss pt.outs f) n c st fits.0 stands)

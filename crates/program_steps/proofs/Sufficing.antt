@@ -39,6 +39,7 @@ use Rattle.program_steps.specs.Words.{Others}
 use Rattle.program_steps.specs.Standing.{SeenBy, FailsAs}
 use Rattle.program_steps.specs.Placed.{InSetting}
 use Rattle.program_steps.specs.Functions.{EntersAs, FunctionFits, FunctionEnds, function_word}
+use Rattle.program_steps.specs.Typed.{OtherFits}
 use Rattle.program_steps.specs.Starting.{file_origins, own_origins, zero_origins, origins_of, file_ranges, param_ranges, required_trees, all_required, start_trees, start_of, StartFits}
 use Rattle.program_steps.specs.Laws.{OthersAreGood, EntriesStart, GoalsSuffice}
 use Rattle.program_steps.proofs.Filling.{forms_are_good}
@@ -136,20 +137,20 @@ fails_never p s ps x (goes_on st) h none = h
 fails_never p s ps x (leaves k st) h none = h
 fails_never p s ps x (fails i) h none = none i refl
 
-pub goals_suffice : GoalsSuffice
-goals_suffice setting q number f temporaries temp_kind texts others bases in_setting fits starts good enough size names differ valid vs w enters x run =
+pub goals_suffice : (asked : OtherFits) → GoalsSuffice asked
+goals_suffice asked setting q number f temporaries temp_kind texts others bases runs in_setting fits starts good enough size names differ valid vs w enters x run =
     let m = world_of setting in
     let s = shape_of f temporaries temp_kind in
     let entry = entries_start m q f temporaries temp_kind texts in_setting enough starts vs w enters in
-    let word = function_word m q.facts s texts others f in
+    let word = function_word m q.facts s texts others number f in
     let fit : AreFit setting bases (start_of m q.facts s texts f) word = record {
       size = size;
       names = names;
       own = differ;
       facts = forms_all m (start_trees m q.facts s texts f);
-      step = functions_are_good m q.facts s texts others good f;
+      step = functions_are_good m q.facts s texts others good number f;
     } in
-    let r = forth m q number f temporaries temp_kind texts others in_setting fits vs w entry.0 entry.1.1 (stops x) run in
+    let r = forth m q number f temporaries temp_kind texts others asked runs in_setting fits vs w entry.0 entry.1.1 (stops x) run in
     fails_never q.facts s (places word) x r.0 r.2 (λ i e.
     let g = failures_have_goals setting bases (start_of m q.facts s texts f) word fit i entry.0 (entry.1.0, subst (Seg [] 0 word entry.0) e r.1) in
     false≢true (sym g.4.claim ∙ valid g.0 g.1 g.3 g.4.bounded))

@@ -1,5 +1,5 @@
 -- Whole functions and their words.
-use Rattle.std.proofs.Common.{◌≡◌, ◌⊎◌, ℕ, zero, suc, ◌+◌, ◌-◌, ◌<◌, ℤ, pos, negsuc, Bool, true, false, ◌&&◌, if◌then◌else◌, List, [], ◌∷◌, ◌++◌, map, length, Option, Some, None, slice_get, refl, sym, ap, ◌∙◌, subst, inl, inr, arith}
+use Rattle.std.proofs.Common.{◌≡◌, ◌⊎◌, ℕ, zero, suc, ◌+◌, ◌-◌, ◌<◌, ℤ, pos, negsuc, Bool, true, false, ◌&&◌, if◌then◌else◌, List, [], ◌∷◌, ◌++◌, map, length, Option, Some, None, slice_get, refl, sym, ap, ◌∙◌, subst, inl, inr, arith, append-nil}
 use Rattle.std.proofs.lemmas.Bool.{false≢true}
 use Rattle.wp_base.specs.declared.kinds.CellKind.{CellKind}
 use Rattle.wp_base.specs.declared.kinds.CellKind.TheVariants as cell
@@ -41,7 +41,10 @@ use Rattle.program_steps.specs.Terms.{Texts}
 use Rattle.program_steps.specs.Words as word
 use Rattle.program_steps.specs.Words.{Others}
 use Rattle.program_steps.specs.Standing.{StandsFor, SeenAs, SeenBy, FailsAs, ReturnsIt, Ends}
+use Rattle.program_steps.specs.Carried.{Carried}
 use Rattle.program_steps.specs.Placed.{InSetting, all_told, Placed, BothWays}
+use Rattle.program_steps.specs.Typed.{OtherFits}
+use Rattle.program_steps.specs.Others.{OthersRun}
 use Rattle.program_steps.specs.Functions.{body_point, together_check, ensure_checks, all_ensured, ending, function_word, SeenReturn, FunctionFits, EntersAs, FunctionEnds, FunctionRuns}
 use Rattle.program_steps.proofs.Listing.{comes, fails_first, fails_second}
 use Rattle.program_steps.proofs.Standing.{file_fits}
@@ -57,8 +60,9 @@ goes_parts e = cc
 none_below : (n : ℕ) → n < 0 → ⊥
 none_below n l = omega (arith, l)
 
-module _ (m : sense.World) (q : Program Steps) (own : ℕ) (f : Function Steps) (temporaries : ℕ) (temp_kind : ℕ → Kind) (texts : Texts) (others : Others)
-    (setting : InSetting m q.facts (shape_of f temporaries temp_kind)) (fits : FunctionFits m q.facts (shape_of f temporaries temp_kind) texts f) (vs : List Value) (w : World) (st : State)
+module _ (m : sense.World) (q : Program Steps) (own : ℕ) (f : Function Steps) (temporaries : ℕ) (temp_kind : ℕ → Kind) (texts : Texts) (others : Others) (asked : OtherFits)
+    (run_so : OthersRun m q (shape_of f temporaries temp_kind) texts f.contract others asked) (setting : InSetting m q.facts (shape_of f temporaries temp_kind))
+    (fits : FunctionFits m q.facts (shape_of f temporaries temp_kind) texts asked f) (vs : List Value) (w : World) (st : State)
     (enters : EntersAs q.facts (shape_of f temporaries temp_kind) f vs w st) where
   abbrev p : Facts
   p = q.facts
@@ -78,15 +82,18 @@ module _ (m : sense.World) (q : Program Steps) (own : ℕ) (f : Function Steps) 
   entry_seen : (st' : State) → SeenBy p s entry (st' ∷ st ∷ []) 1 1 1
   entry_seen st' = record { here_is = enters.seen; pre_is = enters.seen; post_is = enters.seen; loop_entry_is = enters.seen; model = refl; structs = λ n. refl }
 
-  placed : Placed m p s texts f.contract body_point here olds
-  placed = record { entry = enters.seen; loop_entry = enters.seen; locals = locals; globals = globals } where
+  placed : Placed m p s texts f.contract (body_point own) here olds
+  placed = record { entry = enters.seen; loop_entry = enters.seen; locals = locals; globals = globals; carried = carried } where
+    carried : Carried p f.contract here own (body_point own)
+    carried = record { function = refl; measure = refl; granted = (count w.memory.blocks, append-nil (granted_in p entry (count w.memory.blocks) (parts_of f.contract))) }
+
     locals : (x : ℕ) (v : Variable) → slice_get s.variables x ≡ Some v → (st' : State)
-        → all_told m (st' ∷ olds) (word.write_trees p s texts f.contract body_point (variables.Local x)) ≡ may_change_local p here.granted x
+        → all_told m (st' ∷ olds) (word.write_trees p s texts f.contract (body_point own) (variables.Local x)) ≡ may_change_local p here.granted x
     locals x v e st' = sym (all_append (lets_local p x) (granted_in p entry (count w.memory.blocks) (parts_of f.contract)) []
         ∙ and_so _ ∙ locals_so m p s texts setting.globals st' st entry (entry_seen st') (count w.memory.blocks) x (parts_of f.contract))
 
     globals : (x : ℕ) (v : Variable) → slice_get p.globals x ≡ Some v → (st' : State)
-        → all_told m (st' ∷ olds) (word.write_trees p s texts f.contract body_point (variables.Global x)) ≡ may_change_global here.granted x
+        → all_told m (st' ∷ olds) (word.write_trees p s texts f.contract (body_point own) (variables.Global x)) ≡ may_change_global here.granted x
     globals x v e st' =
         writes_so m p s texts setting.globals st' st entry (entry_seen st') (count w.memory.blocks) x v e f.contract fits.plain fits.assumes fits.behaviors
         ∙ sym (all_append (λ (g : Granted). lets_cell cell.Ptr (negsuc x) (pos 0) g) (granted_in p entry (count w.memory.blocks) (parts_of f.contract)) [] ∙ and_so _)
@@ -94,7 +101,7 @@ module _ (m : sense.World) (q : Program Steps) (own : ℕ) (f : Function Steps) 
   -- ---- the body
 
   abbrev body_word : Step
-  body_word = word.steps m p s texts f.contract others body_point f.body no_temporaries
+  body_word = word.steps m p s texts f.contract others (body_point own) f.body no_temporaries
 
   abbrev end_word : Option CellKind → Step
   end_word o = ending m p s texts o f.end
@@ -106,7 +113,7 @@ module _ (m : sense.World) (q : Program Steps) (own : ℕ) (f : Function Steps) 
   EndsIn ps n o e = Ends p s w.memory.blocks (is_param f.params) [] no_temporaries ps n o e
 
   body_both : (n : ℕ) → BothWays (AllSeg q f.variables here f.body first) (EndsIn (places body_word) n) olds n body_word st
-  body_both n = all_both m q s texts f.contract others setting w.memory.blocks f.body here body_point olds placed (is_param f.params) no_temporaries n first st fits.body enters.stands
+  body_both n = all_both m q s texts f.contract others asked run_so setting w.memory.blocks f.body here (body_point own) olds placed (is_param f.params) no_temporaries n first st fits.body enters.stands
 
   -- where it has returned
   record Back (v : Value) (u : World) (st' : State) : Type 0 where
@@ -312,7 +319,7 @@ module _ (m : sense.World) (q : Program Steps) (own : ℕ) (f : Function Steps) 
   rest_word = step.seq (middle f.result) p_word
 
   abbrev whole_word : Step
-  whole_word = function_word m p s texts others f
+  whole_word = function_word m p s texts others own f
 
   abbrev n1 : ℕ
   n1 = 0 + checks_in t_word

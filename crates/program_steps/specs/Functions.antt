@@ -40,11 +40,11 @@ use Rattle.program_steps.specs.Temporaries.{no_temporaries, all_live}
 use Rattle.program_steps.specs.Terms.{Texts, entry_reading, return_reading, claim_tree, assumed_tree}
 use Rattle.program_steps.specs.Words.{Point, of_function, Others, under, check, ask_one, steps}
 use Rattle.program_steps.specs.Standing.{StandsFor, SeenAs, FailsAs}
-use Rattle.program_steps.specs.Typed.{ClaimFits, AllFit}
+use Rattle.program_steps.specs.Typed.{ClaimFits, OtherFits, AllFit}
 
 -- in the body of a function, whose entry is the last state that is remembered
-abbrev pub body_point : Point
-body_point = record { entry = 0; loop_entry = 0; outs = []; force = of_function }
+abbrev pub body_point : (number : ℕ) → Point
+body_point n = record { self = n; entry = 0; loop_entry = 0; outs = []; force = of_function }
 
 -- one stands alone, and none is `false`
 abbrev pub any_of : List Tree → Tree
@@ -95,11 +95,11 @@ module _ (m : sense.World) (p : Facts) (s : Shape) (texts : Texts) where
   ending None l = skip
   ending (Some k) l = seq (ask_one m false_tree (undefined_place noreturn l)) halt
 
-  abbrev pub function_word : Others → Function Steps → Step
-  function_word others f =
+  abbrev pub function_word : Others → (number : ℕ) → Function Steps → Step
+  function_word others n f =
       remember
       (seq (ask (map (together_check f.contract.behaviors) (in_order f.contract.together)))
-      (seq (block (seq (steps m p s texts f.contract others body_point f.body no_temporaries) (ending f.result f.end)))
+      (seq (block (seq (steps m p s texts f.contract others (body_point n) f.body no_temporaries) (ending f.result f.end)))
       (ask (ensure_checks true f.contract.plain ++ all_ensured f.contract.behaviors))))
 
 -- ---- what is asked of it
@@ -146,11 +146,11 @@ pub record BehaviorFits (m : sense.World) (p : Facts) (s : Shape) (texts : Texts
   pub ensures : AllOf (λ (c : Claim). ReturnFits m p s texts c.what) b.ensures
   pub assigns : SetFits p s b.assigns
 
-pub record FunctionFits (m : sense.World) (p : Facts) (s : Shape) (texts : Texts) (f : Function Steps) : Type 0 where
+pub record FunctionFits (m : sense.World) (p : Facts) (s : Shape) (texts : Texts) (fits : OtherFits) (f : Function Steps) : Type 0 where
   pub assumes : f.contract.plain.assumes ≡ []
   pub plain : BehaviorFits m p s texts f.contract.plain
   pub behaviors : AllOf (BehaviorFits m p s texts) f.contract.behaviors
-  pub body : AllFit m p s texts (is_param f.params) [] no_temporaries f.body
+  pub body : AllFit m p s texts fits (is_param f.params) [] no_temporaries f.body
 
 -- ---- where it is entered, and how it ends
 

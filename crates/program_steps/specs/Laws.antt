@@ -33,8 +33,9 @@ use Rattle.program_steps.specs.Terms.{Texts}
 use Rattle.program_steps.specs.Words as word
 use Rattle.program_steps.specs.Words.{Point, Others}
 use Rattle.program_steps.specs.Standing.{StandsFor, Ends, FailsAs}
-use Rattle.program_steps.specs.Typed.{AllFit}
+use Rattle.program_steps.specs.Typed.{OtherFits, AllFit}
 use Rattle.program_steps.specs.Placed.{InSetting, Placed, BothWays}
+use Rattle.program_steps.specs.Others.{OthersRun}
 use Rattle.program_steps.specs.Starting.{origins_of, start_of, StartFits}
 use Rattle.program_steps.specs.Functions.{function_word, FunctionFits, EntersAs, FunctionEnds, FunctionRuns}
 
@@ -64,29 +65,32 @@ WordsAreGood =
 
 abbrev pub FunctionsAreGood : Type 0
 FunctionsAreGood =
-    (m : sense.World) (p : Facts) (s : Shape) (texts : Texts) (others : Others) → OthersAreGood m others → (f : Function Steps) → IsGood m (function_word m p s texts others f)
+    (m : sense.World) (p : Facts) (s : Shape) (texts : Texts) (others : Others) → OthersAreGood m others → (number : ℕ) (f : Function Steps)
+    → IsGood m (function_word m p s texts others number f)
 
 -- ---- runs
 
--- From slots that stand for a world, the segment runs of statements without loops and calls are the runs of their word: for each of the ones there is one of
--- the others that ends so, and a failing check is one of the same kind at the same line.
-abbrev pub StatementsRun : Type 0
-StatementsRun =
-    (m : sense.World) (q : Program Steps) (s : Shape) (texts : Texts) (contract : Contract) (others : Others) → InSetting m q.facts s → (table : Table) (here : Here) (pt : Point)
+-- From slots that stand for a world, the segment runs of statements are the runs of their word, if those of loops and of calls are: for each of the ones there
+-- is one of the others that ends so, and a failing check is one of the same kind at the same line.
+abbrev pub StatementsRun : OtherFits → Type 0
+StatementsRun fits =
+    (m : sense.World) (q : Program Steps) (s : Shape) (texts : Texts) (contract : Contract) (others : Others)
+    → OthersRun m q s texts contract others fits → InSetting m q.facts s → (table : Table) (here : Here) (pt : Point)
     (olds : List State) → Placed m q.facts s texts contract pt here olds → (in_scope : ℕ → Bool) (after : Temporaries) (ss : Steps)
-    → AllFit m q.facts s texts in_scope pt.outs after ss → (n : ℕ) (c : CoreWorld) (st : State) → StandsFor q.facts s table in_scope (all_live ss pt.outs after) c st
+    → AllFit m q.facts s texts fits in_scope pt.outs after ss → (n : ℕ) (c : CoreWorld) (st : State) → StandsFor q.facts s table in_scope (all_live ss pt.outs after) c st
     → BothWays (AllSeg q s.variables here ss c) (Ends q.facts s table in_scope pt.outs after (places (word.steps m q.facts s texts contract others pt ss after)) n) olds n
     (word.steps m q.facts s texts contract others pt ss after) st
 
 -- The same of a whole function, entered with these arguments: of what its behaviors say of each other, its body and its promises.
-abbrev pub FunctionsRun : Type 0
-FunctionsRun =
+abbrev pub FunctionsRun : OtherFits → Type 0
+FunctionsRun fits =
     (m : sense.World) (q : Program Steps) (number : ℕ) (f : Function Steps) (temporaries : ℕ) (temp_kind : ℕ → Kind) (texts : Texts) (others : Others)
-    → InSetting m q.facts (shape_of f temporaries temp_kind) → FunctionFits m q.facts (shape_of f temporaries temp_kind) texts f → (vs : List Value) (w : World) (st : State)
+    → OthersRun m q (shape_of f temporaries temp_kind) texts f.contract others fits → InSetting m q.facts (shape_of f temporaries temp_kind)
+    → FunctionFits m q.facts (shape_of f temporaries temp_kind) texts fits f → (vs : List Value) (w : World) (st : State)
     → EntersAs q.facts (shape_of f temporaries temp_kind) f vs w st
     → FunctionRuns (FunctionSeg q number f vs w)
-    (FunctionEnds q.facts (shape_of f temporaries temp_kind) (places (function_word m q.facts (shape_of f temporaries temp_kind) texts others f)))
-    (function_word m q.facts (shape_of f temporaries temp_kind) texts others f) st
+    (FunctionEnds q.facts (shape_of f temporaries temp_kind) (places (function_word m q.facts (shape_of f temporaries temp_kind) texts others number f)))
+    (function_word m q.facts (shape_of f temporaries temp_kind) texts others number f) st
 
 -- Each world in which a function is entered with arguments of its kinds has slots that stand for it.
 abbrev pub WorldsHaveSlots : Type 0
@@ -113,27 +117,29 @@ StartsEnter =
     → (vs : List Value) × ((w : World) × (Enters q f vs w.memory × EntersAs q.facts (shape_of f temporaries temp_kind) f vs w st))
 
 -- Where all goals of its word are valid, no segment run of the function goes wrong from there. Own names at the start are to differ, as in walk_steps.
-abbrev pub GoalsSuffice : Type 0
-GoalsSuffice =
-    (setting : Setting) (q : Program Steps) (number : ℕ) (f : Function Steps) (temporaries : ℕ) (temp_kind : ℕ → Kind) (texts : Texts) (others : Others) (bases : List (List ℕ))
-    → InSetting (world_of setting) q.facts (shape_of f temporaries temp_kind) → FunctionFits (world_of setting) q.facts (shape_of f temporaries temp_kind) texts f
+abbrev pub GoalsSuffice : OtherFits → Type 0
+GoalsSuffice fits =
+    (setting : Setting) (q : Program Steps) (number : ℕ) (f : Function Steps) (temporaries : ℕ) (temp_kind : ℕ → Kind) (texts : Texts) (others : Others)
+    (bases : List (List ℕ)) → OthersRun (world_of setting) q (shape_of f temporaries temp_kind) texts f.contract others fits
+    → InSetting (world_of setting) q.facts (shape_of f temporaries temp_kind) → FunctionFits (world_of setting) q.facts (shape_of f temporaries temp_kind) texts fits f
     → StartFits (world_of setting) q.facts (shape_of f temporaries temp_kind) texts f.contract → OthersAreGood (world_of setting) others → f.params ≤ length f.variables
     → length (origins_of (world_of setting) q.facts (shape_of f temporaries temp_kind) texts f.params) ≡ length bases → AreBases bases
     → OwnDiffer bases (origins_of (world_of setting) q.facts (shape_of f temporaries temp_kind) texts f.params)
     → ((g : GoalOf) → In g (goals bases (start_of (world_of setting) q.facts (shape_of f temporaries temp_kind) texts f)
-    (function_word (world_of setting) q.facts (shape_of f temporaries temp_kind) texts others f)) → Valid setting (formula_of g))
+    (function_word (world_of setting) q.facts (shape_of f temporaries temp_kind) texts others number f)) → Valid setting (formula_of g))
     → (vs : List Value) (w : World) → Enters q f vs w.memory → (e : Stop) → FunctionSeg q number f vs w (stops e) → ⊥
 
 -- Values that falsify a goal are a world in which the function is entered, and a segment run of it goes wrong from there at the goal's check.
-abbrev pub FalsifiedFail : Type 0
-FalsifiedFail =
-    (setting : Setting) (q : Program Steps) (number : ℕ) (f : Function Steps) (temporaries : ℕ) (temp_kind : ℕ → Kind) (texts : Texts) (others : Others) (bases : List (List ℕ))
-    → InSetting (world_of setting) q.facts (shape_of f temporaries temp_kind) → FunctionFits (world_of setting) q.facts (shape_of f temporaries temp_kind) texts f
+abbrev pub FalsifiedFail : OtherFits → Type 0
+FalsifiedFail fits =
+    (setting : Setting) (q : Program Steps) (number : ℕ) (f : Function Steps) (temporaries : ℕ) (temp_kind : ℕ → Kind) (texts : Texts) (others : Others)
+    (bases : List (List ℕ)) → OthersRun (world_of setting) q (shape_of f temporaries temp_kind) texts f.contract others fits
+    → InSetting (world_of setting) q.facts (shape_of f temporaries temp_kind) → FunctionFits (world_of setting) q.facts (shape_of f temporaries temp_kind) texts fits f
     → StartFits (world_of setting) q.facts (shape_of f temporaries temp_kind) texts f.contract → OthersAreGood (world_of setting) others → f.params ≤ length f.variables
     → length (origins_of (world_of setting) q.facts (shape_of f temporaries temp_kind) texts f.params) ≡ length bases → AreBases bases
     → OwnDiffer bases (origins_of (world_of setting) q.facts (shape_of f temporaries temp_kind) texts f.params)
     → (g : GoalOf) → In g (goals bases (start_of (world_of setting) q.facts (shape_of f temporaries temp_kind) texts f)
-    (function_word (world_of setting) q.facts (shape_of f temporaries temp_kind) texts others f))
+    (function_word (world_of setting) q.facts (shape_of f temporaries temp_kind) texts others number f))
     → (env : sense.Values) → sense.truth (world_of setting) env (formula_of g) ≡ false
     → (vs : List Value) × ((w : World) × (Enters q f vs w.memory × ((e : Stop) × (FunctionSeg q number f vs w (stops e)
-    × FailsAs (places (function_word (world_of setting) q.facts (shape_of f temporaries temp_kind) texts others f)) 0 g.number e))))
+    × FailsAs (places (function_word (world_of setting) q.facts (shape_of f temporaries temp_kind) texts others number f)) 0 g.number e))))

@@ -5,7 +5,9 @@ pub mod Terms
 pub mod Words
 pub mod Standing
 pub mod Typed
+pub mod Carried
 pub mod Placed
+pub mod Others
 pub mod Functions
 pub mod Starting
 pub mod Laws

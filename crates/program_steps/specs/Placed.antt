@@ -21,6 +21,7 @@ use Rattle.program_steps.specs.Leaves.{closed, leaves_of}
 use Rattle.program_steps.specs.Terms.{Texts}
 use Rattle.program_steps.specs.Words.{Point, write_trees}
 use Rattle.program_steps.specs.Standing.{SeenAs}
+use Rattle.program_steps.specs.Carried.{Carried}
 
 -- all variables are integers, and formulas are read over the kinds of the file's data model
 pub record InSetting (m : sense.World) (p : Facts) (s : Shape) : Type 0 where
@@ -32,7 +33,8 @@ pub record InSetting (m : sense.World) (p : Facts) (s : Shape) : Type 0 where
 abbrev pub all_told : sense.World → List State → List Tree → Bool
 all_told m sts fs = list_all (λ f. truth m (leaves_of sts) (closed f)) fs
 
--- The function's entry and that of the innermost loop are remembered, and what is asked before a write says whether the sets in force let it.
+-- The function's entry and that of the innermost loop are remembered, what is asked before a write says whether the sets in force let it, and the run carries
+-- along what the word knows.
 pub record Placed (m : sense.World) (p : Facts) (s : Shape) (texts : Texts) (contract : Contract) (pt : Point) (here : Here) (olds : List State) : Type 0 where
   pub entry : SeenAs p s here.entry (at_or [] olds pt.entry) (at_or [] olds pt.entry)
   pub loop_entry : SeenAs p s here.loop_entry (at_or [] olds pt.loop_entry) (at_or [] olds pt.loop_entry)
@@ -40,6 +42,7 @@ pub record Placed (m : sense.World) (p : Facts) (s : Shape) (texts : Texts) (con
       → all_told m (st ∷ olds) (write_trees p s texts contract pt (variables.Local x)) ≡ may_change_local p here.granted x
   pub globals : (x : ℕ) (v : Variable) → slice_get p.globals x ≡ Some v → (st : State)
       → all_told m (st ∷ olds) (write_trees p s texts contract pt (variables.Global x)) ≡ may_change_global here.granted x
+  pub carried : Carried p contract here pt.self pt
 
 -- Runs of one kind and those of a word, from slots: for each of the ones there is one of the others that ends so.
 pub record BothWays (r : Ending → Type 0) (ends : Ending → End → Type 0) (olds : List State) (n : ℕ) (a : Step) (st : State) : Type 0 where

@@ -6,7 +6,9 @@ use Rattle.typed_prog.specs.declared.operators.Variable.{Variable}
 use Rattle.typed_prog.specs.declared.operators.Variable.TheVariants as variables
 use Rattle.acsl_trees.specs.Tree as acsl
 use Rattle.acsl_trees.specs.declared.heads.Head.TheVariants as head
-use Rattle.qed_terms.specs.Tree.{Tree, num, false_tree, imp_of}
+use Rattle.qed_terms.specs.declared.head.Sort.TheVariants as sort
+use Rattle.qed_terms.specs.declared.head.Head.TheVariants as h
+use Rattle.qed_terms.specs.Tree.{Tree, node, stop, num, false_tree, imp_of}
 use Rattle.c_runs.specs.Program.{Behavior, Facts}
 use Rattle.c_runs.specs.Program as program
 use Rattle.c_runs.specs.States.{hidden, global_home}
@@ -26,8 +28,15 @@ pub record Texts : Type 0 where
   pub binders : acsl.Tree → Spelled
   pub called : (number : ℕ) → Option Called
 
+-- in the places of what no expression reads
 abbrev pub unused : Tree
 unused = num (pos 0)
+
+abbrev pub unused_table : Tree
+unused_table = node (h.Var (97 ∷ []) sort.Table) stop
+
+abbrev pub unused_memory : Tree
+unused_memory = node (h.Var (97 ∷ []) sort.Memory) stop
 
 module _ (p : Facts) (s : Shape) where
   -- ---- expressions, in the present state
@@ -39,10 +48,10 @@ module _ (p : Facts) (s : Shape) where
     temporaries = λ n. as_number (leaf 0 (temp_slot (sizes p s) n));
     flags = λ x. leaf 0 (local_flag (sizes p s) x);
     homes = λ x. unused;
-    table = unused;
-    numbers = λ k. unused;
-    blocks = unused;
-    offsets = unused;
+    table = unused_table;
+    numbers = λ k. unused_memory;
+    blocks = unused_memory;
+    offsets = unused_memory;
   }
 
   -- ---- annotations

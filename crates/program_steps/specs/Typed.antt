@@ -1,5 +1,5 @@
 -- What is asked of the statements of a function over plain integers, so that their words do what they do: typed expressions with their own checks, variables in
--- scope, and annotations that have formulas.
+-- scope, and annotations that have formulas. What is asked of loops and calls is a parameter, as their words are.
 use Rattle.std.specs.Prelude.{◌≡◌, ◌<◌, ℕ, nat_lt, Bool, true, false, ◌&&◌, if◌then◌else◌, List, [], ◌∷◌, length, Option, Some, None, slice_get}
 use Rattle.std.specs.List.{list_all}
 use Rattle.wp_base.specs.declared.kinds.CellKind.{CellKind}
@@ -11,10 +11,11 @@ use Rattle.acsl_truth.specs.States as labelled
 use Rattle.qed_terms.specs.Meaning as sense
 use Rattle.qed_terms.specs.Meaning.{truth}
 use Rattle.qed_terms.specs.Tree.{Tree}
-use Rattle.c_runs.specs.Program.{Variable, Facts}
+use Rattle.c_runs.specs.Program.{Variable, Loop, Facts}
 use Rattle.c_runs.specs.Claims.{holds}
 use Rattle.rte_checks.specs.Checks.{Check, checks_of, all_checks}
 use Rattle.core_checks.specs.Tree as core
+use Rattle.core_checks.specs.Tree.{Goal}
 use Rattle.plain_states.specs.Slots.{State}
 use Rattle.plain_states.specs.Scopes.{kind_of}
 use Rattle.plain_runs.specs.Fitting.{Shape, LeadsTo, with_name, with_names}
@@ -70,7 +71,12 @@ module _ (s : Shape) where
   Declares f [] = Unit {0}
   Declares f (y ∷ ys) = (f y ≡ false) × (y < length s.variables) × Declares (with_name y f) ys
 
-module _ (m : sense.World) (p : Facts) (s : Shape) (texts : Texts) where
+-- What is asked of a loop, where these variables are in scope and these temporaries are used behind the blocks around; and of a call, behind which these are.
+pub record OtherFits : Type 1 where
+  pub loop_fits : (in_scope : ℕ → Bool) (outs : List Temporaries) → Loop → core.Steps → Type 0
+  pub call_fits : (in_scope : ℕ → Bool) (outs : List Temporaries) (after : Temporaries) → List Check → Goal → (function line : ℕ) → t.Values → Type 0
+
+module _ (m : sense.World) (p : Facts) (s : Shape) (texts : Texts) (fits : OtherFits) where
   abbrev mutual
     pub WordFits : (in_scope : ℕ → Bool) → (outs : List Temporaries) → (after : Temporaries) → core.Step → Type 0
     WordFits i os f (core.set cs n e) =
@@ -80,10 +86,10 @@ module _ (m : sense.World) (p : Facts) (s : Shape) (texts : Texts) where
     WordFits i os f (core.store cs type l path es) = ⊥
     WordFits i os f (core.start cs x e) =
         (k : Kind) × Takes s i x k × ValueFits p s (live (core.start cs x e) os f) e k × (cs ≡ checks_of s.variables e)
-    WordFits i os f (core.call cs to n l es) = ⊥
+    WordFits i os f (core.call cs to n l es) = fits.call_fits i os f cs to n l es
     WordFits i os f (core.branch cs e a b) =
         (k : Kind) × ValueFits p s (live (core.branch cs e a b) os f) e k × (cs ≡ checks_of s.variables e) × AllFit i os f a × AllFit i os f b
-    WordFits i os f (core.repeat l ss) = ⊥
+    WordFits i os f (core.repeat l ss) = fits.loop_fits i os l ss × AllFit i os no_temporaries ss
     WordFits i os f (core.around ss) = AllFit i (f ∷ os) f ss
     WordFits i os f (core.exit k) = k < length os
     WordFits i os f (core.give cs None) = s.result ≡ None

@@ -40,9 +40,10 @@ pub data Force : Type 0 where
   of_function : Force
   of_loop : (regions : List acsl.Tree) (declared : ℕ) → Force
 
--- Which of the remembered states, the last one being 0, are the function's entry and that of the innermost loop; which temporaries are used behind the
--- blocks around; and the set in force.
+-- The number of the function; which of the remembered states, the last one being 0, are its entry and that of the innermost loop; which temporaries are used
+-- behind the blocks around; and the set in force.
 pub record Point : Type 0 where
+  pub self : ℕ
   pub entry : ℕ
   pub loop_entry : ℕ
   pub outs : List Temporaries
@@ -176,7 +177,7 @@ inside_loop l w = by l.assigns where
 
 -- in a pass, before which the entry of the loop and the head are remembered
 abbrev pub in_pass : Loop → Point → Point
-in_pass l pt = record { entry = suc (suc pt.entry); loop_entry = 1; outs = pt.outs; force = inside_loop l pt.force }
+in_pass l pt = record { self = pt.self; entry = suc (suc pt.entry); loop_entry = 1; outs = pt.outs; force = inside_loop l pt.force }
 
 module _ (m : sense.World) (p : Facts) (s : Shape) (texts : Texts) (contract : Contract) (others : Others) where
   abbrev pub term_in : t.Value → Tree

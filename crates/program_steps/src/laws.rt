@@ -1,5 +1,7 @@
-// What is so of words.
+// What is so of words. What is asked of loops and calls, and what they do, is given.
 ghost use Rattle.program_steps.specs.Laws.{EntriesStart, FalsifiedFail, FormsAreGood, FunctionsAreGood, FunctionsRun, GoalsSuffice, StartsEnter, StatementsRun, WordsAreGood, WorldsHaveSlots};
+
+use crate::others::OtherStatements;
 
 /// Forms, numbers and facts over leaves say in a step what they are in a state.
 pub fn forms_are_good()
@@ -16,14 +18,14 @@ pub fn functions_are_good()
     ensures { FunctionsAreGood }
 {}
 
-/// The segment runs of statements without loops and calls are the runs of their words.
-pub fn statements_run()
-    ensures { StatementsRun }
+/// The segment runs of statements are the runs of their words, if those of loops and calls are.
+pub fn statements_run<O: OtherStatements>()
+    ensures { StatementsRun (record { loop_fits = O.loop_fits; call_fits = O.call_fits }) }
 {}
 
-/// The segment runs of a function without loops and calls are the runs of its word.
-pub fn functions_run()
-    ensures { FunctionsRun }
+/// The segment runs of a function are the runs of its word, if those of loops and calls are.
+pub fn functions_run<O: OtherStatements>()
+    ensures { FunctionsRun (record { loop_fits = O.loop_fits; call_fits = O.call_fits }) }
 {}
 
 /// Each world in which a function is entered has slots that stand for it.
@@ -37,8 +39,8 @@ pub fn entries_start()
 {}
 
 /// Where all goals of its word are valid, no segment run of a function goes wrong.
-pub fn goals_suffice()
-    ensures { GoalsSuffice }
+pub fn goals_suffice<O: OtherStatements>()
+    ensures { GoalsSuffice (record { loop_fits = O.loop_fits; call_fits = O.call_fits }) }
 {}
 
 /// Slots in which the word of a function may start are those of a world in which it is entered as it asks for.
@@ -47,6 +49,6 @@ pub fn starts_enter()
 {}
 
 /// Values that falsify a goal are a world from which a segment run of the function goes wrong at the goal's check.
-pub fn falsified_fail()
-    ensures { FalsifiedFail }
+pub fn falsified_fail<O: OtherStatements>()
+    ensures { FalsifiedFail (record { loop_fits = O.loop_fits; call_fits = O.call_fits }) }
 {}

@@ -2,8 +2,10 @@
 #![tactic(auto)]
 
 mod laws;
+mod others;
 
 pub use laws::{
     entries_start, falsified_fail, forms_are_good, functions_are_good, functions_run,
     goals_suffice, starts_enter, statements_run, words_are_good, worlds_have_slots,
 };
+pub use others::OtherStatements;

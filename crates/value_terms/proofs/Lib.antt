@@ -13,7 +13,7 @@ mod Results
 mod Operations
 pub mod Meaning
 mod Fitting
-mod FittingWords
-mod Places
+pub mod FittingWords
+pub mod Places
 mod Examples
 mod Existing

@@ -2,4 +2,4 @@ use Rattle.program_steps.proofs.laws.statements_run.Goals as goal
 use Rattle.program_steps.proofs.Running as proof
 
 pub returns : goal.returns
-returns c = proof.statements_run
+returns g c = proof.statements_run (record { loop_fits = g.O.OtherStatements.loop_fits; call_fits = g.O.OtherStatements.call_fits })

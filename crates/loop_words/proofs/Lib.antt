@@ -1,0 +1,12 @@
+pub mod Telling
+pub mod Good
+pub mod Regions
+pub mod Inside
+pub mod Renewing
+pub mod Staying
+pub mod Letting
+pub mod Worlds
+pub mod Heads
+pub mod Checking
+pub mod Loops
+pub mod Worked

@@ -1,0 +1,18 @@
+// What is so of the words of loops.
+ghost use Rattle.loop_words.specs.Examples.{ExamplesHold};
+ghost use Rattle.loop_words.specs.Laws.{LoopsAreGood, LoopsRun};
+
+/// All that stands in the word of a loop is good, where that of its pass is.
+pub fn loops_are_good()
+    ensures { LoopsAreGood }
+{}
+
+/// The segment runs of a loop are the runs of its word, where those of its pass are.
+pub fn loops_run()
+    ensures { LoopsRun }
+{}
+
+/// Words of small loops have in them what was worked out by hand.
+pub fn examples_hold()
+    ensures { ExamplesHold }
+{}

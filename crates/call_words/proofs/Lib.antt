@@ -1,0 +1,16 @@
+pub mod Good
+mod Views
+mod Tells
+mod Claims
+mod Named
+mod Inside
+mod Further
+mod Changing
+mod Receiving
+mod Staying
+mod Behind
+mod Answers
+mod Tail
+mod Stages
+pub mod Calls
+mod Worked

@@ -1,0 +1,119 @@
+-- Formulas that are closed and say what they are to say, one by one and several at once.
+use Rattle.std.proofs.Common.{◌≡◌, Bool, true, false, not, ◌&&◌, ◌||◌, List, [], ◌∷◌, ◌++◌, refl, sym, ap, ◌∙◌}
+use Rattle.std.specs.List.{list_all, list_any}
+use Rattle.std.proofs.lemmas.Bool.{and_parts}
+use Rattle.qed_terms.specs.Meaning as sense
+use Rattle.qed_terms.specs.Meaning.{Values, truth}
+use Rattle.qed_terms.specs.Tree.{Tree}
+use Rattle.acsl_encode.specs.Encode.{all_of}
+use Rattle.plain_states.specs.Slots.{State}
+use Rattle.program_steps.specs.Leaves.{is_closed, closed, leaves_of}
+use Rattle.program_steps.specs.Words.{as_one, under}
+use Rattle.program_steps.specs.Functions.{any_of}
+use Rattle.program_steps.specs.Placed.{all_told}
+use Rattle.program_steps.proofs.Asking.{closed_told}
+use Rattle.program_steps.proofs.Tests.{all_closed, any_closed, all_so, any_so}
+use Rattle.program_steps.proofs.Granting.{and_so, all_append}
+use Rattle.call_words.specs.Sets.{truth_tree, only_under}
+
+pub any_append : {X : Type 0} (f : X → Bool) (xs ys : List X) → list_any f (xs ++ ys) ≡ (list_any f xs || list_any f ys)
+any_append f [] ys = refl
+any_append f (x ∷ xs) ys = ap (λ b. f x || b) (any_append f xs ys) ∙ grouped (f x) (list_any f xs) (list_any f ys) where
+  grouped : (a b c : Bool) → (a || (b || c)) ≡ ((a || b) || c)
+  grouped true b c = refl
+  grouped false b c = refl
+
+module _ (m : sense.World) (sts : List State) where
+  abbrev env : Values
+  env = leaves_of sts
+
+  pub record Tells (f : Tree) (b : Bool) : Type 0 where
+    pub closed_so : is_closed [] f ≡ true
+    pub true_so : truth m env f ≡ b
+
+  pub told_so : (f : Tree) (b : Bool) → Tells f b → truth m env (closed f) ≡ b
+  told_so f b h = closed_told m sts f h.closed_so ∙ h.true_so
+
+  pub tells_as : (f : Tree) (a b : Bool) → a ≡ b → Tells f a → Tells f b
+  tells_as f a b e h = record { closed_so = h.closed_so; true_so = h.true_so ∙ e }
+
+  pub truth_tells : (b : Bool) → Tells (truth_tree b) b
+  truth_tells true = record { closed_so = refl; true_so = refl }
+  truth_tells false = record { closed_so = refl; true_so = refl }
+
+  pub under_tells : (plain : Bool) (a f : Tree) (x y : Bool) → Tells a x → Tells f y → (plain ≡ true → x ≡ true) → Tells (under plain a f) (not x || y)
+  under_tells true a f x y h k so = record { closed_so = k.closed_so; true_so = k.true_so ∙ ap (λ x. not x || y) (sym (so refl)) }
+  under_tells false a f x y h k so = record {
+    closed_so = (λ i. h.closed_so i && (k.closed_so i && true));
+    true_so = (λ i. not (h.true_so i) || k.true_so i);
+  }
+
+  pub only_tells : (plain : Bool) (a f : Tree) (x y : Bool) → Tells a x → Tells f y → (plain ≡ true → x ≡ true) → Tells (only_under plain a f) (x && y)
+  only_tells true a f x y h k so = record { closed_so = k.closed_so; true_so = k.true_so ∙ ap (λ x. x && y) (sym (so refl)) }
+  only_tells false a f x y h k so = record {
+    closed_so = (λ i. h.closed_so i && (k.closed_so i && true));
+    true_so = (λ i. h.true_so i && (k.true_so i && true)) ∙ ap (λ z. x && z) (and_so y);
+  }
+
+  -- ---- all of several
+
+  pub record AllTell (fs : List Tree) (b : Bool) : Type 0 where
+    pub closed_so : list_all (is_closed []) fs ≡ true
+    pub true_so : list_all (truth m env) fs ≡ b
+
+  pub none_tell : AllTell [] true
+  none_tell = record { closed_so = refl; true_so = refl }
+
+  pub more_tell : (f : Tree) (fs : List Tree) (a b : Bool) → Tells f a → AllTell fs b → AllTell (f ∷ fs) (a && b)
+  more_tell f fs a b h k = record { closed_so = (λ i. h.closed_so i && k.closed_so i); true_so = (λ i. h.true_so i && k.true_so i) }
+
+  pub both_tell : (fs gs : List Tree) (a b : Bool) → AllTell fs a → AllTell gs b → AllTell (fs ++ gs) (a && b)
+  both_tell fs gs a b h k = record {
+    closed_so = all_append (is_closed []) fs gs ∙ (λ i. h.closed_so i && k.closed_so i);
+    true_so = all_append (truth m env) fs gs ∙ (λ i. h.true_so i && k.true_so i);
+  }
+
+  pub all_as : (fs : List Tree) (a b : Bool) → a ≡ b → AllTell fs a → AllTell fs b
+  all_as fs a b e h = record { closed_so = h.closed_so; true_so = h.true_so ∙ e }
+
+  pub all_tell : (fs : List Tree) (b : Bool) → AllTell fs b → Tells (all_of fs) b
+  all_tell fs b h = record { closed_so = all_closed fs h.closed_so; true_so = all_so m env fs ∙ h.true_so }
+
+  each : (fs : List Tree) → list_all (is_closed []) fs ≡ true → all_told m sts fs ≡ list_all (truth m env) fs
+  each [] h = refl
+  each (f ∷ fs) h = let both = and_parts (is_closed [] f) (list_all (is_closed []) fs) h in λ i. (closed_told m sts f both.0 i) && (each fs both.1 i)
+
+  pub they_tell : (fs : List Tree) (b : Bool) → AllTell fs b → all_told m sts fs ≡ b
+  they_tell fs b h = each fs h.closed_so ∙ h.true_so
+
+  pub one_tells : (f : Tree) (b : Bool) → Tells f b → all_told m sts (f ∷ []) ≡ b
+  one_tells f b h = and_so (truth m env (closed f)) ∙ told_so f b h
+
+  -- asked as one
+  pub as_one_tells : (fs : List Tree) (b : Bool) → AllTell fs b → all_told m sts (as_one fs) ≡ b
+  as_one_tells [] b h = h.true_so
+  as_one_tells (f ∷ fs) b h = one_tells (all_of (f ∷ fs)) b (all_tell (f ∷ fs) b h)
+
+  -- ---- one of several
+
+  pub record AnyTells (fs : List Tree) (b : Bool) : Type 0 where
+    pub closed_so : list_all (is_closed []) fs ≡ true
+    pub true_so : list_any (truth m env) fs ≡ b
+
+  pub no_tells : AnyTells [] false
+  no_tells = record { closed_so = refl; true_so = refl }
+
+  pub first_tells : (f : Tree) (b : Bool) → Tells f b → AnyTells (f ∷ []) b
+  first_tells f b h = record { closed_so = ap (λ x. x && true) h.closed_so; true_so = or_so (truth m env f) ∙ h.true_so } where
+    or_so : (b : Bool) → (b || false) ≡ b
+    or_so true = refl
+    or_so false = refl
+
+  pub either_tells : (fs gs : List Tree) (a b : Bool) → AnyTells fs a → AnyTells gs b → AnyTells (fs ++ gs) (a || b)
+  either_tells fs gs a b h k = record {
+    closed_so = all_append (is_closed []) fs gs ∙ (λ i. h.closed_so i && k.closed_so i);
+    true_so = any_append (truth m env) fs gs ∙ (λ i. h.true_so i || k.true_so i);
+  }
+
+  pub any_tells : (fs : List Tree) (b : Bool) → AnyTells fs b → Tells (any_of fs) b
+  any_tells fs b h = record { closed_so = any_closed fs h.closed_so; true_so = any_so m env fs ∙ h.true_so }

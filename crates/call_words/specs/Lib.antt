@@ -1,0 +1,6 @@
+pub mod Callee
+pub mod Sets
+pub mod Words
+pub mod Fits
+pub mod Laws
+pub mod Examples

@@ -1,0 +1,13 @@
+pub mod Names
+pub mod Filled
+pub mod Formulas
+pub mod Writes
+pub mod LoopTexts
+pub mod Arguments
+pub mod CallTexts
+pub mod Others
+pub mod Stops
+pub mod Runs
+pub mod Exact
+pub mod Texts
+pub mod Worked

@@ -1,0 +1,12 @@
+-- The goals of the examples compute to those worked out by hand.
+use Rattle.std.proofs.Common.{refl}
+use Rattle.qed_terms.specs.Fresh.{fresh_name}
+use Rattle.qed_terms.specs.Order as order
+use Rattle.value_terms.specs.Terms.{op_term}
+use Rattle.value_terms.specs.Words.{op_items}
+use Rattle.program_steps.specs.Leaves.{leaf_name}
+use Rattle.program_goals.specs.Examples.{ExampleGoals}
+
+pub example_goals : ExampleGoals
+unfolding fresh_name order.tree_cmp op_term op_items leaf_name
+example_goals = record { turning = refl; behaving = refl }

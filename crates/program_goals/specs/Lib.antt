@@ -1,0 +1,5 @@
+pub mod Words
+pub mod Programs
+pub mod Texts
+pub mod Laws
+pub mod Examples

@@ -6,5 +6,6 @@ pub mod Pure
 pub mod Planned
 pub mod Singles
 pub mod Scopes
+pub mod Giving
 pub mod Statements
 pub mod Whole

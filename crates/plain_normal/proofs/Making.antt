@@ -18,14 +18,12 @@ use Rattle.core_runs.specs.Core.{Core, set, branch, exit, Cores, end, then_, joi
 use Rattle.rte_checks.specs.Checks.{has_checks}
 use Rattle.normal_stmts.specs.Plans.{temp_of, constant_of, no_value, Made, Tests, Sent, Mades, Plan, kept, save, sent_made, jump, leaf, leafy, straight, crossed, logic_test, flag, logic_made, logic_plan, Condition, jumps_, tests_, condition, next_of, fork, into, choice_made, save_if, made_if, nothing_made}
 use Rattle.normal_stmts.specs.Normal.{normal_function}
-use Rattle.core_checks.specs.Tree.{Steps}
-use Rattle.core_checks.specs.Adding.{step_of, steps_of, function_of}
 use Rattle.plain_states.specs.Scopes.{is_integer}
 use Rattle.plain_states.proofs.Scoping.{none_some}
-use Rattle.plain_runs.specs.Fitting.{Shape, FitsStep, FitsSteps}
+use Rattle.plain_runs.specs.Fitting.{Shape}
 use Rattle.plain_typing.specs.Laws.{scope_of}
-use Rattle.plain_typing.proofs.Giving.{typed_give}
 use Rattle.value_terms.specs.Typed.{IsTyped, AreTyped, kind_given}
+use Rattle.plain_normal.specs.Typed.{IsOfKind, CoreIsTyped, CoresAreTyped}
 use Rattle.plain_normal.proofs.Sorts.{SameTypes, integer_given, temporary_typed}
 
 -- ---- where a statement stands
@@ -47,8 +45,8 @@ pub record Env : Type 0 where
 abbrev pub shape : Place → Env → Shape
 shape q e = record { variables = q.variables; temporaries = e.count; temp_kind = e.kind; result = q.result }
 
-abbrev pub checked : Place → ℕ → Option (Function Steps)
-checked q n = option_map function_of (option_map normal_function (q.functions n))
+abbrev pub normals : Place → ℕ → Option (Function Cores)
+normals q n = option_map normal_function (q.functions n)
 
 -- ---- temporaries
 
@@ -110,11 +108,11 @@ makes_temp ks n k count = record {
   so = λ e known. known n k (ap (slice_get (ks ++ k ∷ [])) (sym count) ∙ last_at ks k);
 }
 
-one_of : (m : Machdep) → holds m kind.Int (pos 1) ≡ true
+pub one_of : (m : Machdep) → holds m kind.Int (pos 1) ≡ true
 one_of model.X86_32 = refl
 one_of model.X86_64 = refl
 
-none_of : (m : Machdep) → holds m kind.Int (pos 0) ≡ true
+pub none_of : (m : Machdep) → holds m kind.Int (pos 0) ≡ true
 none_of model.X86_32 = refl
 none_of model.X86_64 = refl
 
@@ -137,10 +135,10 @@ module _ (q : Place) where
 
   module _ (f : ℕ → Bool) (low : ℕ) where
     abbrev pub Fits : Env → Cores → Type 0
-    Fits e cs = FitsSteps q.facts (shape q e) (checked q) f low (steps_of q.variables cs)
+    Fits e cs = CoresAreTyped q.facts (shape q e) (normals q) f low cs
 
     abbrev pub FitsOne : Env → Core → Type 0
-    FitsOne e c = FitsStep q.facts (shape q e) (checked q) f low (step_of q.variables c)
+    FitsOne e c = CoreIsTyped q.facts (shape q e) (normals q) f low c
 
     pub join_fits : (e : Env) (a b : Cores) → Fits e a → Fits e b → Fits e (join a b)
     join_fits e end b h k = k
@@ -177,7 +175,7 @@ module _ (q : Place) where
 
     pub set_fits : (e : Env) (type : CoreType) (n : ℕ) (v : t.Value) → is_pointer type ≡ false → t.type_of v ≡ type → TypedIn e v → IsTemp n (kind_at type) e → FitsOne e (set n v)
     set_fits e type n v number same typed temp =
-        (temp.0, typed_give q.facts (shape q e) q.globals q.integers v typed (e.kind n) (ap kind_given same ∙ integer_given type number ∙ sym (ap cell.Of temp.1)))
+        (temp.0, (typed, ap kind_given same ∙ integer_given type number ∙ sym (ap cell.Of temp.1)))
 
     pub temp_is : (e : Env) (type : CoreType) (l n : ℕ) → is_pointer type ≡ false → IsTemp n (kind_at type) e → TypedIn e (temp_of type l n)
     temp_is e type l n number temp = temporary_typed q.facts q.variables (shape q e) type n l number temp.0 temp.1
@@ -205,12 +203,16 @@ module _ (q : Place) where
 
     -- ---- conditions
 
-    jump_fits : (want : Bool) (e : Env) (k : ℕ) (v : t.Value) → FitsOne e (jump want k v)
-    jump_fits true e k v = (tt, (tt, tt))
-    jump_fits false e k v = ((tt, tt), tt)
+    -- a value has the kind of its type
+    pub tested : (e : Env) (type : CoreType) (m : Made) → MadeIs type m e → IsOfKind q.facts (shape q e) m.value (kind_at type)
+    tested e type m h = (h.value, ap kind_given h.same ∙ integer_given type h.number)
+
+    jump_fits : (want : Bool) (e : Env) (k : ℕ) (type : CoreType) (m : Made) → MadeIs type m e → FitsOne e (jump want k m.value)
+    jump_fits true e k type m h = (kind_at type, tested e type m h, tt, (tt, tt))
+    jump_fits false e k type m h = (kind_at type, tested e type m h, (tt, tt), tt)
 
     pub leaf_fits : (want : Bool) (k : ℕ) (ks : List Kind) (type : CoreType) (m : Made) → Makes ks m.next_temp (MadeIs type m) → Makes ks (leaf want k m).next_temp (TestsFit (leaf want k m))
-    leaf_fits want k ks type m h = makes_map ks m.next_temp (λ e h. join_fits e m.before (one (jump want k m.value)) h.before (jump_fits want e k m.value, tt)) h
+    leaf_fits want k ks type m h = makes_map ks m.next_temp (λ e h. join_fits e m.before (one (jump want k m.value)) h.before (jump_fits want e k type m h, tt)) h
 
     pub leafy_is : (d : t.Value) (type : CoreType) (g : ℕ → Made) → FirstIs d type g → PlanIs d type (leafy g)
     leafy_is d type g h = record {
@@ -285,7 +287,7 @@ module _ (q : Place) where
       fork_jumps e x h first other a b = ((join_fits e x.tests (join (first 2) (one (exit 1))) h (join_fits e (first 2) (one (exit 1)) (a 2) (tt, tt)), b 1), tt)
 
       fork_tests : (e : Env) (type : CoreType) (m : Made) → MadeIs type m e → ForkFits (tests_ m) e
-      fork_tests e type m h first other a b = join_fits e m.before (one (branch m.value (first 0) (other 0))) h.before ((a 0, b 0), tt)
+      fork_tests e type m h first other a b = join_fits e m.before (one (branch m.value (first 0) (other 0))) h.before ((kind_at type, tested e type m h, a 0, b 0), tt)
 
       pub forks : (type : CoreType) (c : Plan) → PlanIs d type c → (ks : List Kind) (n : ℕ) → length ks ≡ n → Has ks d → Makes ks (next_of (condition c n)) (ForkFits (condition c n))
       forks type c pc ks n count left =

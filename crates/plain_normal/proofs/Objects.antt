@@ -20,19 +20,18 @@ use Rattle.c_runs.specs.Values.{kind_at}
 use Rattle.c_runs.specs.Effects.{changed}
 use Rattle.c_runs.specs.Run.{old_value}
 use Rattle.core_runs.specs.Core.{Target, nowhere, temporary, store, call}
-use Rattle.rte_checks.specs.Checks.{all_checks}
 use Rattle.normal_stmts.specs.Normal.{normal_function}
-use Rattle.core_checks.specs.Adding.{function_of, goal_of}
+use Rattle.core_checks.specs.Adding.{goal_of}
 use Rattle.plain_states.specs.Scopes.{is_integer, are_one_integer, kind_of}
 use Rattle.plain_states.proofs.Scoping.{listed_integer, cell_of_integer}
-use Rattle.plain_runs.specs.Fitting.{LeadsTo, to_local, to_global, GiveAll, Receives, by_temporary, for_none, for_nothing, for_result}
+use Rattle.plain_runs.specs.Fitting.{LeadsTo, to_local, to_global, Receives, by_temporary}
 use Rattle.plain_typing.specs.Laws.{scope_of}
-use Rattle.plain_typing.proofs.Operands.{typed_give_all, typed_store}
 use Rattle.value_terms.specs.Readings.{plain_global}
 use Rattle.value_terms.specs.Typed.{kind_given, ReadIsTyped, CellIsTyped, OpIsTyped, AreTyped}
 use Rattle.plain_normal.specs.Plain.{anywhere, ChangeIsPlain, IsCalled, ResultIsPlain, Names, local, global, IsPlain}
+use Rattle.plain_normal.specs.Typed.{ArePassed, none_received, dropped, received}
 use Rattle.plain_normal.proofs.Sorts.{SameTypes, same_count, same_kind}
-use Rattle.plain_normal.proofs.Making.{Place, Env, shape, checked, IsTemp, TypedIn, FitsOne}
+use Rattle.plain_normal.proofs.Making.{Place, Env, shape, normals, IsTemp, TypedIn, FitsOne}
 
 module _ (q : Place) where
   -- ---- reading
@@ -75,7 +74,7 @@ module _ (q : Place) where
   store_fits f low e type l path k int names a (t.more v (t.more w vs)) same typed types = elim types.1 [ ]
   store_fits f low e type l path k int names a (t.more v t.stop) same typed types =
       let way = leads f e path k names in
-      (k, way, typed_store q.facts (shape q e) q.globals q.integers v typed.0 f type path k way (ap kind_given (sym types.0 ∙ same ∙ int)))
+      (k, way, (typed.0, ap kind_given (sym types.0 ∙ same ∙ int)))
 
   -- ---- updates
 
@@ -97,35 +96,37 @@ module _ (q : Place) where
 
   -- ---- calls
 
-  found_checked : (n : ℕ) (g : Function Stmts) → q.functions n ≡ Some g → checked q n ≡ Some (function_of (normal_function g))
-  found_checked n g e = ap (λ o. option_map function_of (option_map normal_function o)) e
+  found_normal : (n : ℕ) (g : Function Stmts) → q.functions n ≡ Some g → normals q n ≡ Some (normal_function g)
+  found_normal n g e = ap (option_map normal_function) e
 
-  arguments_give : (e : Env) (n : ℕ) (es vs : t.Values) (c : IsCalled q.functions n es) → AreTyped q.facts q.variables (scope_of (shape q e)) vs → SameTypes es vs
-      → GiveAll q.facts (shape q e) (all_checks q.variables vs) vs c.function.variables c.function.params
-  arguments_give e n es vs c typed same =
+  arguments_pass : (e : Env) (n : ℕ) (es vs : t.Values) (c : IsCalled q.functions n es) → AreTyped q.facts q.variables (scope_of (shape q e)) vs → SameTypes es vs
+      → ArePassed q.facts (shape q e) vs (normal_function c.function)
+  arguments_pass e n es vs c typed same =
       let counts = same_count es vs same in
-      subst (GiveAll q.facts (shape q e) (all_checks q.variables vs) vs c.function.variables) (sym counts ∙ c.passes.count)
-      (typed_give_all q.facts (shape q e) q.globals q.integers vs typed c.function.variables
-      (subst (λ i. i ≤ length c.function.variables) (sym c.passes.count ∙ counts) c.passes.enough)
-      (λ i v below h. sym (same_kind es vs same i) ∙ c.passes.kinds i v (subst (λ j. i < j) (sym counts) below) h))
+      record {
+        typed = typed;
+        count = sym counts ∙ c.passes.count;
+        enough = c.passes.enough;
+        kinds = λ i v below h. sym (same_kind es vs same i) ∙ c.passes.kinds i v (subst (λ j. i < j) (sym counts) below) h;
+      }
 
   -- a result that nobody wants
   pub call_fits : (f : ℕ → Bool) (low : ℕ) (e : Env) (n l : ℕ) (es vs : t.Values) → IsCalled q.functions n es → AreTyped q.facts q.variables (scope_of (shape q e)) vs → SameTypes es vs
       → FitsOne q f low e (call nowhere n l vs)
   call_fits f low e n l es vs c typed same =
-      (function_of (normal_function c.function), found_checked n c.function c.found, for_nothing (arguments_give e n es vs c typed same))
+      (normal_function c.function, found_normal n c.function c.found, arguments_pass e n es vs c typed same, dropped)
 
   -- a function without result gives what is of no use
   none_fits : (f : ℕ → Bool) (low : ℕ) (e : Env) (n l i : ℕ) (es vs : t.Values) (c : IsCalled q.functions n es) → c.function.result ≡ None → i < e.count
       → AreTyped q.facts q.variables (scope_of (shape q e)) vs → SameTypes es vs → FitsOne q f low e (call (temporary i) n l vs)
   none_fits f low e n l i es vs c result below typed same =
-      (function_of (normal_function c.function), found_checked n c.function c.found, for_none (arguments_give e n es vs c typed same) result below)
+      (normal_function c.function, found_normal n c.function c.found, arguments_pass e n es vs c typed same, none_received result below)
 
   -- a result of the kind
   pub result_fits : (f : ℕ → Bool) (low : ℕ) (e : Env) (n l : ℕ) (es vs : t.Values) (k : Kind) (to : Target) (c : IsCalled q.functions n es) → c.function.result ≡ Some (cell.Of k)
       → AreTyped q.facts q.variables (scope_of (shape q e)) vs → SameTypes es vs → Receives q.facts (shape q e) f low k (goal_of q.variables to) → FitsOne q f low e (call to n l vs)
   result_fits f low e n l es vs k to c result typed same receives =
-      (function_of (normal_function c.function), found_checked n c.function c.found, for_result (arguments_give e n es vs c typed same) result receives)
+      (normal_function c.function, found_normal n c.function c.found, arguments_pass e n es vs c typed same, received result receives)
 
   -- a result goes to a temporary of its type's kind
   pub sent_fits : (f : ℕ → Bool) (low : ℕ) (e : Env) (type : CoreType) (n l i : ℕ) (es vs : t.Values) (c : IsCalled q.functions n es) → ResultIsPlain type c.function.result → IsTemp i (kind_at type) e

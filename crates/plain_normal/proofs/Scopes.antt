@@ -97,7 +97,7 @@ module _ (p : Facts) (xs : List Variable) (functions : ℕ → Option (Function 
       stmt_narrower f' f g w low (initial x line e) h = h
       stmt_narrower f' f g w low (choose e a b) h = (h.0, stmt_narrower f' f g w low a h.1, stmt_narrower f' f g w low b h.2)
       stmt_narrower f' f g w low (loop l before s step behind) h = (h.0, h.1, stmt_narrower f' f (up_to l.declared g) w l.declared s h.2, h.3, h.4)
-      stmt_narrower f' f g w low (switch e ss) h = (h.0, stmts_narrower f' f g w low ss h.1)
+      stmt_narrower f' f g w low (switch e ss) h = (h.0, h.1, stmts_narrower f' f g w low ss h.2)
       stmt_narrower f' f g w low (case_of z) h = tt
       stmt_narrower f' f g w low default h = tt
       stmt_narrower f' f g w low break h = tt

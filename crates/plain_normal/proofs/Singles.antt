@@ -19,7 +19,6 @@ use Rattle.normal_stmts.specs.Plans.{Made, operands, first_plan, planned}
 use Rattle.normal_stmts.specs.Normal.{Did, is_temp, save_unless, dropped, called_into, plain_store, stored, effect_of, started, loop_test, loop_step, given}
 use Rattle.plain_states.specs.Scopes.{kind_of}
 use Rattle.plain_runs.specs.Fitting.{Receives, by_place, by_variable}
-use Rattle.plain_typing.proofs.Giving.{typed_give}
 use Rattle.value_terms.specs.Typed.{kind_given}
 use Rattle.plain_normal.specs.Single.{is_single, are_single}
 use Rattle.plain_normal.specs.Plain.{ChangeIsPlain, IsCalled, ResultIsPlain, Names, IsPlain, AreAllPlain, IsWanted, IfWanted, Begins}
@@ -146,7 +145,7 @@ module _ (q : Place) (f : ℕ → Bool) (low : ℕ) where
         (
           kind_of h.variable,
           (h.variable, h.found, refl, h.in_its_scope, h.own),
-          typed_give q.facts (shape q env) q.globals q.integers m.value y.value (kind_of h.variable) (ap kind_given (y.same ∙ h.type)),
+          (y.value, ap kind_given (y.same ∙ h.type)),
         ),
         tt,
       ))
@@ -186,5 +185,5 @@ module _ (q : Place) (f : ℕ → Bool) (low : ℕ) where
       let m = (planned q.variables e).made n in
       makes_map ks m.next_temp
       (λ env y. join_fits q f low env m.before (one (give (Some m.value))) y.before
-      ((k, result, typed_give q.facts (shape q env) q.globals q.integers m.value y.value k (ap kind_given (y.same ∙ type))), tt))
+      ((k, result, (y.value, ap kind_given (y.same ∙ type))), tt))
       (planned_made e h ks n count)

@@ -1,18 +1,29 @@
 -- Statements: each becomes core statements that fit.
-use Rattle.std.proofs.Common.{◌≡◌, ℕ, suc, ◌≤◌, Bool, true, false, if◌then◌else◌, List, [], ◌∷◌, length, Option, Some, None, refl, ap, ◌∙◌, subst, inl, inr}
+use Rattle.std.proofs.Common.{◌≡◌, ℕ, ℤ, suc, ◌≤◌, Bool, true, false, if◌then◌else◌, List, [], ◌∷◌, length, Option, Some, None, refl, sym, ap, ◌∙◌, subst, inl, inr}
 use Rattle.std.specs.Prelude.{◌⊎◌}
 use Rattle.wp_base.specs.declared.kinds.Kind.{Kind}
+use Rattle.wp_base.specs.declared.kinds.Kind.TheVariants as kind
+use Rattle.c_kinds.specs.Models.{holds}
+use Rattle.typed_prog.specs.declared.types.CoreType.{CoreType}
+use Rattle.typed_prog.specs.declared.operators.Comparison.TheVariants as cmp
+use Rattle.typed_prog.specs.declared.operators.Op.TheVariants as op
+use Rattle.typed_prog.specs.Types.{is_pointer}
+use Rattle.qed_terms.specs.Operators.{is_equal}
+use Rattle.c_runs.specs.Values.{kind_at}
+use Rattle.c_runs.specs.Run.{is_case}
 use Rattle.typed_prog.specs.Tree as t
 use Rattle.c_runs.specs.Program.{Loop, Stmt, evaluate, block, initial, choose, loop, switch, case_of, default, break, continue, return_of, assert, Stmts, stop, more}
-use Rattle.core_runs.specs.Core.{around, exit, claim, Cores, end, then_, join, one}
-use Rattle.normal_stmts.specs.Plans.{Tests, no_value, condition, next_of, planned}
-use Rattle.normal_stmts.specs.Normal.{Did, is_settled, save_unless, effect_of, started, loop_test, loop_step, given, is_label, whole_switch, close, dispatch, up, loop_body, stmt, stmts, groups}
+use Rattle.core_runs.specs.Core.{branch, around, exit, claim, Cores, end, then_, join, one}
+use Rattle.normal_stmts.specs.Plans.{constant_of, Tests, no_value, condition, next_of, planned}
+use Rattle.normal_stmts.specs.Normal.{Did, is_settled, save_unless, effect_of, started, loop_test, loop_step, given, is_label, whole_switch, close, int_type, truth_of, label_test, index_of, dispatch, up, loop_body, stmt, stmts, groups}
 use Rattle.core_checks.specs.Adding.{steps_of}
 use Rattle.plain_runs.specs.Touched.{some_sets}
 use Rattle.plain_runs.specs.Fitting.{with_name, with_names, Declares}
-use Rattle.plain_normal.specs.Plain.{IsWanted, IfWanted, AreNew, up_to, StmtIsPlain, StmtsArePlain}
-use Rattle.plain_normal.proofs.Making.{Place, Env, shape, checked, Known, Extends, Makes, has_no_value, Fits, forks, join_fits}
+use Rattle.plain_normal.specs.Typed.{IsOfKind}
+use Rattle.plain_normal.specs.Plain.{IsWanted, IfWanted, AreNew, LabelsFit, up_to, StmtIsPlain, StmtsArePlain}
+use Rattle.plain_normal.proofs.Making.{Place, Env, shape, normals, Known, Extends, Makes, TypedIn, has_no_value, Fits, FitsOne, MadeIs, tested, forks, join_fits, one_of, none_of}
 use Rattle.plain_normal.proofs.Done.{on_test}
+use Rattle.plain_normal.proofs.Giving.{with_checks, cores_fit}
 use Rattle.plain_normal.proofs.Planned.{env_of, env_known, value_is}
 use Rattle.plain_normal.proofs.Scopes.{Within, names_within, up_to_within, not_up_to, wanted_wider, if_wanted_wider, begins_wider, stmt_narrower, steps_unset}
 use Rattle.plain_normal.proofs.Singles.{DoneIs, planned_made, saves_unless, effect_done, started_done, tests_done, step_done, none_given, some_given}
@@ -43,20 +54,45 @@ module _ (q : Place) where
 
   -- ---- a switch
 
-  dispatch_fits : (f : ℕ → Bool) (low : ℕ) (e : Env) (v : t.Value) (all ss : Stmts) → Fits q f low e (dispatch v all ss)
-  dispatch_fits f low e v all stop = (tt, tt)
-  dispatch_fits f low e v all (more (case_of z) ss) = (((tt, tt), tt), dispatch_fits f low e v all ss)
-  dispatch_fits f low e v all (more (evaluate a) ss) = dispatch_fits f low e v all ss
-  dispatch_fits f low e v all (more (block ys s) ss) = dispatch_fits f low e v all ss
-  dispatch_fits f low e v all (more (initial x line a) ss) = dispatch_fits f low e v all ss
-  dispatch_fits f low e v all (more (choose c a b) ss) = dispatch_fits f low e v all ss
-  dispatch_fits f low e v all (more (loop l a b c d) ss) = dispatch_fits f low e v all ss
-  dispatch_fits f low e v all (more (switch a s) ss) = dispatch_fits f low e v all ss
-  dispatch_fits f low e v all (more default ss) = dispatch_fits f low e v all ss
-  dispatch_fits f low e v all (more break ss) = dispatch_fits f low e v all ss
-  dispatch_fits f low e v all (more continue ss) = dispatch_fits f low e v all ss
-  dispatch_fits f low e v all (more (return_of a) ss) = dispatch_fits f low e v all ss
-  dispatch_fits f low e v all (more (assert c) ss) = dispatch_fits f low e v all ss
+  -- whether the value is that of a label
+  truth_kind : (e : Env) (l : ℕ) (b : Bool) → IsOfKind q.facts (shape q e) (truth_of l b) kind.Int
+  truth_kind e l true = ((refl, one_of q.facts.model), refl)
+  truth_kind e l false = ((refl, none_of q.facts.model), refl)
+
+  compared : (e : Env) (node : t.ValueNode) (type : CoreType) (l : ℕ) (z : ℤ) → TypedIn q e (t.typed node type l) → is_pointer type ≡ false → holds q.facts.model (kind_at type) z ≡ true
+      → IsOfKind q.facts (shape q e) (t.typed (t.apply (op.Compare cmp.Equal) (t.more (t.typed node type l) (t.more (constant_of type l z) t.stop))) int_type l) kind.Int
+  compared e node type l z typed number so = (((typed, ((number, so), tt)), refl), refl)
+
+  label_typed : (e : Env) (node : t.ValueNode) (type : CoreType) (l : ℕ) (z : ℤ) → TypedIn q e (t.typed node type l) → is_pointer type ≡ false → holds q.facts.model (kind_at type) z ≡ true
+      → IsOfKind q.facts (shape q e) (label_test (t.typed node type l) z) kind.Int
+  label_typed e (t.constant y) type l z typed number so = truth_kind e l (is_equal y z)
+  label_typed e t.null type l z typed number so = compared e t.null type l z typed number so
+  label_typed e (t.temporary i) type l z typed number so = compared e (t.temporary i) type l z typed number so
+  label_typed e (t.apply o es) type l z typed number so = compared e (t.apply o es) type l z typed number so
+  label_typed e (t.logic c a b) type l z typed number so = compared e (t.logic c a b) type l z typed number so
+  label_typed e (t.choose c a b) type l z typed number so = compared e (t.choose c a b) type l z typed number so
+  label_typed e (t.effect o es) type l z typed number so = compared e (t.effect o es) type l z typed number so
+
+  label_fits : (f : ℕ → Bool) (low : ℕ) (e : Env) (v : t.Value) (z : ℤ) (a : Cores) → TypedIn q e v → is_pointer (t.type_of v) ≡ false → holds q.facts.model (kind_at (t.type_of v)) z ≡ true
+      → Fits q f low e a → FitsOne q f low e (branch (label_test v z) a end)
+  label_fits f low e (t.typed node type l) z a typed number so inside = (kind.Int, label_typed e node type l z typed number so, inside, tt)
+
+  dispatch_fits : (f : ℕ → Bool) (low : ℕ) (e : Env) (v : t.Value) (all ss : Stmts) → TypedIn q e v → is_pointer (t.type_of v) ≡ false → LabelsFit q.facts q.variables q.functions (t.type_of v) ss
+      → Fits q f low e (dispatch v all ss)
+  dispatch_fits f low e v all stop typed number labels = (tt, tt)
+  dispatch_fits f low e v all (more (case_of z) ss) typed number labels =
+      (label_fits f low e v z (one (exit (index_of (is_case z) false all))) typed number labels.0 (tt, tt), dispatch_fits f low e v all ss typed number labels.1)
+  dispatch_fits f low e v all (more (evaluate a) ss) typed number labels = dispatch_fits f low e v all ss typed number labels.1
+  dispatch_fits f low e v all (more (block ys s) ss) typed number labels = dispatch_fits f low e v all ss typed number labels.1
+  dispatch_fits f low e v all (more (initial x line a) ss) typed number labels = dispatch_fits f low e v all ss typed number labels.1
+  dispatch_fits f low e v all (more (choose c a b) ss) typed number labels = dispatch_fits f low e v all ss typed number labels.1
+  dispatch_fits f low e v all (more (loop l a b c d) ss) typed number labels = dispatch_fits f low e v all ss typed number labels.1
+  dispatch_fits f low e v all (more (switch a s) ss) typed number labels = dispatch_fits f low e v all ss typed number labels.1
+  dispatch_fits f low e v all (more default ss) typed number labels = dispatch_fits f low e v all ss typed number labels.1
+  dispatch_fits f low e v all (more break ss) typed number labels = dispatch_fits f low e v all ss typed number labels.1
+  dispatch_fits f low e v all (more continue ss) typed number labels = dispatch_fits f low e v all ss typed number labels.1
+  dispatch_fits f low e v all (more (return_of a) ss) typed number labels = dispatch_fits f low e v all ss typed number labels.1
+  dispatch_fits f low e v all (more (assert c) ss) typed number labels = dispatch_fits f low e v all ss typed number labels.1
 
   close_fits : (f : ℕ → Bool) (low : ℕ) (e : Env) (o : Bool) (inner : Cores) → Fits q f low e inner → Fits q f low e (close o inner)
   close_fits f low e true inner h = (h, tt)
@@ -178,8 +214,10 @@ module _ (q : Place) where
               (
                 above,
                 λ i le. on_test (f i) (λ b. (b ≡ false) ⊎ (some_sets (steps_of q.variables (inside_at n)) i ≡ false))
-                    (λ t. inr (steps_unset q.facts (shape q e) (shape q (env_of y.kinds)) (checked q) f (up_to l.declared g) l.declared l.declared (steps_of q.variables (inside_at n)) i
-                    (x.so e known) (y.so (env_of y.kinds) (env_known y.kinds)) t (not_up_to g l.declared i le)))
+                    (λ t. inr (steps_unset q.facts (shape q e) (shape q (env_of y.kinds)) (with_checks q.facts (shape q e) q.globals q.integers (normals q)) f (up_to l.declared g) l.declared l.declared
+                    (steps_of q.variables (inside_at n)) i (cores_fit q.facts (shape q e) q.globals q.integers (normals q) f l.declared (inside_at n) (x.so e known))
+                    (cores_fit q.facts (shape q (env_of y.kinds)) q.globals q.integers (normals q) (up_to l.declared g) l.declared (inside_at n) (y.so (env_of y.kinds) (env_known y.kinds)))
+                    t (not_up_to g l.declared i le)))
                     (λ t. inl refl),
                 x.so e known,
               ),
@@ -189,8 +227,8 @@ module _ (q : Place) where
           );
         }
 
-  switch_does : (f : ℕ → Bool) (low : ℕ) (e : t.Value) (ss : Stmts) → IsWanted q.facts q.variables q.functions f e → GroupsOf f low ss → StmtDoes f low (switch e ss)
-  switch_does f low e ss wanted h ks n count =
+  switch_does : (f : ℕ → Bool) (low : ℕ) (e : t.Value) (ss : Stmts) → IsWanted q.facts q.variables q.functions f e → LabelsFit q.facts q.variables q.functions (t.type_of e) ss → GroupsOf f low ss → StmtDoes f low (switch e ss)
+  switch_does f low e ss wanted labels h ks n count =
       let m = (planned q.variables e).made n in
       let x = save_unless (is_settled m.value) m in
       let a = saves_unless q f low (is_settled m.value) ks (t.type_of e) m (planned_made q f low e wanted ks n count) in
@@ -201,8 +239,12 @@ module _ (q : Place) where
         count = λ b c. y.count c false (dispatch x.value ss ss);
         so = λ env known b c.
             let d = groups q.variables c x.next_temp false (dispatch x.value ss ss) ss in
-            join_fits q f low env x.before (one (around d.did)) (a.so env (λ i k l. known i k (y.extends i k l))).before
-            (y.so env known c false (dispatch x.value ss ss) (dispatch_fits f low env x.value ss ss), tt);
+            let v = a.so env (λ i k l. known i k (y.extends i k l)) in
+            join_fits q f low env x.before (one (around d.did)) v.before (
+              y.so env known c false (dispatch x.value ss ss) (dispatch_fits f low env x.value ss ss v.value (ap is_pointer v.same ∙ v.number)
+                  (subst (λ type. LabelsFit q.facts q.variables q.functions type ss) (sym v.same) labels)),
+              tt,
+            );
       }
 
   block_does : (f : ℕ → Bool) (low : ℕ) (ys : List ℕ) (ss : Stmts) → AreNew q.facts q.variables q.functions f low ys → StmtsDo (with_names ys f) low ss → StmtDoes f low (block ys ss)
@@ -225,7 +267,7 @@ module _ (q : Place) where
         (if_wanted_wider q.facts q.variables q.functions g' f w' step h.3) (if_wanted_wider q.facts q.variables q.functions g' f w' behind h.4))
         (loop_inside l before s step behind g' h.1
         (stmt_does g' g' l.declared s (stmt_narrower q.facts q.variables q.functions q.result g' f g' w' l.declared s h.2) (λ x e. e)) h.3 h.4) ks n count
-    stmt_does f g low (switch e ss) h w ks n count = switch_does f low e ss (wanted_wider q.facts q.variables q.functions g f w e h.0) (groups_do f g low ss h.1 w) ks n count
+    stmt_does f g low (switch e ss) h w ks n count = switch_does f low e ss (wanted_wider q.facts q.variables q.functions g f w e h.0) h.1 (groups_do f g low ss h.2 w) ks n count
     stmt_does f g low (case_of z) h w ks n count = nothing f low (λ b c. end) ks n count (λ e b c. tt)
     stmt_does f g low default h w ks n count = nothing f low (λ b c. end) ks n count (λ e b c. tt)
     stmt_does f g low break h w ks n count = nothing f low (λ b c. one (exit b)) ks n count (λ e b c. (tt, tt))

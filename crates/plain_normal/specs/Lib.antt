@@ -1,3 +1,4 @@
 pub mod Single
 pub mod Plain
+pub mod Typed
 pub mod Laws

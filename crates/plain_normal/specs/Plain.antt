@@ -117,6 +117,15 @@ module _ (p : Facts) (xs : List Variable) (functions : ℕ → Option (Function 
   AreNew f low [] = Unit {0}
   AreNew f low (y ∷ ys) = (f y ≡ false) × (low ≤ y) × (y < length xs) × AreNew (with_name y f) low ys
 
+  -- a label is a number of the kind of what is switched over (C11 6.8.4.2p5)
+  abbrev pub LabelFits : CoreType → Stmt → Type 0
+  LabelFits type (case_of z) = holds p.model (kind_at type) z ≡ true
+  LabelFits type s = Unit {0}
+
+  abbrev pub LabelsFit : CoreType → Stmts → Type 0
+  LabelsFit type stop = Unit {0}
+  LabelsFit type (more s ss) = LabelFits type s × LabelsFit type ss
+
   module _ (result : Option CellKind) where
     -- `there`: what blocks have made; `named`: what is in scope, in a loop only what is declared before it or in it. `low`: variables from this number on are
     -- declared in the loops around
@@ -128,7 +137,7 @@ module _ (p : Facts) (xs : List Variable) (functions : ℕ → Option (Function 
       StmtIsPlain f g low (choose e a b) = IsWanted g e × StmtIsPlain f g low a × StmtIsPlain f g low b
       StmtIsPlain f g low (loop l before s step behind) =
           (low ≤ l.declared) × IfWanted (up_to l.declared g) before × StmtIsPlain f (up_to l.declared g) l.declared s × IfWanted (up_to l.declared g) step × IfWanted (up_to l.declared g) behind
-      StmtIsPlain f g low (switch e ss) = IsWanted g e × StmtsArePlain f g low ss
+      StmtIsPlain f g low (switch e ss) = IsWanted g e × LabelsFit (t.type_of e) ss × StmtsArePlain f g low ss
       StmtIsPlain f g low (case_of z) = Unit {0}
       StmtIsPlain f g low default = Unit {0}
       StmtIsPlain f g low break = Unit {0}

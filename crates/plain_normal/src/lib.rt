@@ -3,4 +3,4 @@
 
 mod laws;
 
-pub use laws::plain_programs_fit;
+pub use laws::{plain_programs_are_typed, plain_programs_fit, typed_programs_fit};

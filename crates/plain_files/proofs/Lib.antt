@@ -1,0 +1,13 @@
+pub mod Names
+pub mod Nesting
+pub mod Spelling
+pub mod Scoping
+pub mod Contexts
+pub mod Standing
+pub mod Declaring
+pub mod Headers
+pub mod Bodies
+pub mod Texts
+pub mod Variables
+pub mod Typed
+pub mod Whole

@@ -1,0 +1,4 @@
+pub mod Values
+pub mod Standing
+pub mod Files
+pub mod Laws

@@ -1,0 +1,4 @@
+pub mod Binders
+pub mod Notes
+pub mod Trees
+pub mod Tables

@@ -1,0 +1,15 @@
+pub mod Same
+pub mod Closing
+pub mod Bound
+pub mod Integers
+pub mod Terms
+pub mod Alike
+pub mod Closed
+pub mod Naming
+pub mod Fits
+pub mod Slots
+pub mod Claims
+pub mod Clauses
+pub mod Settings
+pub mod Callees
+pub mod Arguments

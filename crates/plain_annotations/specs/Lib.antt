@@ -1,0 +1,12 @@
+pub mod Plain
+pub mod Casts
+pub mod Loose
+pub mod Names
+pub mod Views
+pub mod Laws
+pub mod Places
+pub mod Claims
+pub mod Clauses
+pub mod Settings
+pub mod Callees
+pub mod Arguments

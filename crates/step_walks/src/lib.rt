@@ -1,0 +1,14 @@
+//! Floor 5, goals: walks over steps as calls in a row: what each step does to a world in memory, with its goals passed on as they are met.
+#![tactic(auto)]
+
+mod arms;
+mod asks;
+mod blocks;
+mod sinks;
+mod states;
+
+pub use arms::{Arm, Fork, begin_arms, meet, turn_back};
+pub use asks::ask;
+pub use blocks::{begin_block, copy_state, end_block, end_scope};
+pub use sinks::{Claimed, Collector, GoalSink, Place};
+pub use states::{State, change, forget, know, leave, remember, set};

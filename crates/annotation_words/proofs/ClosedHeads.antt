@@ -23,7 +23,7 @@ use Rattle.qed_terms.specs.Tree as tree
 use Rattle.qed_terms.specs.Tree.{Tree as Term, num, var}
 use Rattle.program_steps.specs.Leaves.{is_marked, is_closed}
 use Rattle.acsl_encode.specs.Readings.{Named, one, two, Global, integer_global, pointer_global, Called, Terms, integer, truth, address, variable, elements, region}
-use Rattle.acsl_encode.specs.Readings.{nothing, Pointer, Slot, whole, pointer, home, absent, Seen, Reading, seen_at, seen_in, moved_to}
+use Rattle.acsl_encode.specs.Readings.{nothing, Pointer, Slot, whole, any_integer, pointer, home, absent, Seen, Reading, seen_at, seen_in, moved_to}
 use Rattle.acsl_encode.specs.Encode as encode
 use Rattle.acsl_encode.specs.Encode.{as_integer, as_formula, as_pointer, with_one, with_two, terms_at, first, second, third, last_of, unbounded, put, all_put}
 use Rattle.acsl_encode.specs.Encode.{Names, with_name, Kids, Ends, ends_of, kind_of, over, quantified, body_of, node_terms, encoded, all_encoded, binders, no_names}
@@ -183,12 +183,14 @@ module _ (xs : List (List ℕ)) where
     by : (b : Bool) → Holds (AllClosed xs) (if b then Some (t ∷ []) else None)
     by true = (anywhere xs t a, tt)
     by false = tt
+  number_closed m k (any_integer t) a = tt
   number_closed m k (pointer b o) a = tt
   number_closed m k (home b) a = tt
   number_closed m k absent a = tt
 
   address_closed : (s : Slot) → SlotClosed s → Holds (AllClosed xs) (encode.pointer_in s)
   address_closed (whole l t) a = tt
+  address_closed (any_integer t) a = tt
   address_closed (pointer b o) a = (anywhere xs b a.0, (anywhere xs o a.1, tt))
   address_closed (home b) a = tt
   address_closed absent a = tt

@@ -25,7 +25,7 @@ use Rattle.qed_terms.specs.declared.head.TermOp.TheVariants as op
 use Rattle.qed_terms.specs.Tree as tree
 use Rattle.qed_terms.specs.Tree.{Tree as Term, Trees, node, stop, more, trees_of, num, var}
 use Rattle.program_steps.specs.Leaves.{is_marked, is_closed, are_closed, is_closed_range}
-use Rattle.acsl_encode.specs.Readings.{Terms, integer, truth, address, variable, elements, region, nothing, Pointer, at, Slot, whole, pointer, home, absent, Seen}
+use Rattle.acsl_encode.specs.Readings.{Terms, integer, truth, address, variable, elements, region, nothing, Pointer, at, Slot, whole, any_integer, pointer, home, absent, Seen}
 use Rattle.acsl_encode.specs.Encode as encode
 use Rattle.acsl_encode.specs.Encode.{as_integer, as_formula, as_pointer, with_one, with_two, terms_at, comparison, pointer_comparison, times, further, moved}
 use Rattle.acsl_encode.specs.Encode.{difference, of_variable, held, read, wrapped, converted, either, either_truth, either_address, reached, all_of, Ends, ends_of}
@@ -273,20 +273,24 @@ module _ (xs : List (List ℕ)) where
 
   pub variable_closed : (x : Variable) (s : Slot) → SlotClosed s → TermsClosed xs (of_variable x s)
   variable_closed x (whole k t) a = tt
+  variable_closed x (any_integer t) a = tt
   variable_closed x (pointer b o) a = tt
   variable_closed x (home b) a = (anywhere xs b a, refl)
   variable_closed x absent a = tt
 
   held_closed : (c : Content) (s : Slot) → SlotClosed s → TermsClosed xs (held c s)
   held_closed (content.Integer k) (whole l t) a = anywhere xs t a
+  held_closed (content.Integer k) (any_integer t) a = anywhere xs t a
   held_closed content.Pointer (pointer b o) a = (anywhere xs b a.0, anywhere xs o a.1)
   held_closed (content.Integer k) (pointer b o) a = tt
   held_closed (content.Integer k) (home b) a = tt
   held_closed (content.Integer k) absent a = tt
   held_closed content.Pointer (whole l t) a = tt
+  held_closed content.Pointer (any_integer t) a = tt
   held_closed content.Pointer (home b) a = tt
   held_closed content.Pointer absent a = tt
   held_closed (content.Struct n) (whole l t) a = tt
+  held_closed (content.Struct n) (any_integer t) a = tt
   held_closed (content.Struct n) (pointer b o) a = tt
   held_closed (content.Struct n) (home b) a = tt
   held_closed (content.Struct n) absent a = tt

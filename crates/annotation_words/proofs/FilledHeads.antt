@@ -20,7 +20,7 @@ use Rattle.qed_terms.specs.Tree.{Tree as Term, node, stop, num, var, imp_of, and
 use Rattle.walk_steps.specs.Forms.{Slots}
 use Rattle.program_steps.specs.Leaves.{fill, as_integer as or_zero, slot_named, is_marked}
 use Rattle.acsl_encode.specs.Readings.{Named, one, two, Global, integer_global, pointer_global, Called, Terms, integer, truth, address, variable, elements}
-use Rattle.acsl_encode.specs.Readings.{region, nothing, Pointer, Slot, whole, pointer, home, absent, Seen, Reading, seen_at, seen_in}
+use Rattle.acsl_encode.specs.Readings.{region, nothing, Pointer, Slot, whole, any_integer, pointer, home, absent, Seen, Reading, seen_at, seen_in}
 use Rattle.acsl_encode.specs.Encode as encode
 use Rattle.acsl_encode.specs.Encode.{as_integer, as_formula, as_pointer, with_one, with_two, terms_at, first, second, third, applied, put, all_put, argument}
 use Rattle.acsl_encode.specs.Encode.{arguments, memory_of, integer_of, pointer_in, global_of, all_given, app, called, both, linked, all_linked, in_chain}
@@ -203,12 +203,14 @@ module _ (ss : List Slots) where
 
   number_filled : (m : Machdep) (k : Kind) (s : Slot) → integer_of m k (fill_slot ss s) ≡ option_map lists (integer_of m k s)
   number_filled m k (whole l t) = whole_filled (holds_all m k l) t
+  number_filled m k (any_integer t) = refl
   number_filled m k (pointer b o) = refl
   number_filled m k (home b) = refl
   number_filled m k absent = refl
 
   address_filled : (s : Slot) → pointer_in (fill_slot ss s) ≡ option_map lists (pointer_in s)
   address_filled (whole l t) = refl
+  address_filled (any_integer t) = refl
   address_filled (pointer b o) = refl
   address_filled (home b) = refl
   address_filled absent = refl

@@ -21,7 +21,7 @@ use Rattle.qed_terms.specs.declared.head.TermOp.TheVariants as op
 use Rattle.qed_terms.specs.Tree.{Tree as Term, Trees, node, stop, more, trees_of, num, ite}
 use Rattle.walk_steps.specs.Forms.{Slots}
 use Rattle.program_steps.specs.Leaves.{fill, fill_all}
-use Rattle.acsl_encode.specs.Readings.{Terms, integer, truth, address, variable, elements, region, nothing, Pointer, at, Slot, whole, pointer, home, absent, Seen}
+use Rattle.acsl_encode.specs.Readings.{Terms, integer, truth, address, variable, elements, region, nothing, Pointer, at, Slot, whole, any_integer, pointer, home, absent, Seen}
 use Rattle.acsl_encode.specs.Encode as encode
 use Rattle.acsl_encode.specs.Encode.{as_integer, as_formula, as_pointer, with_one, with_two, on_two, terms_at, last_of, comparison, pointer_comparison, times}
 use Rattle.acsl_encode.specs.Encode.{further, moved, difference, of_variable, held, read, wrapped, converted, either, either_truth, either_address, reached}
@@ -146,20 +146,24 @@ module _ (ss : List Slots) where
 
   pub variable_filled : (x : Variable) (s : Slot) → of_variable x (fill_slot ss s) ≡ fill_terms ss (of_variable x s)
   variable_filled x (whole k t) = refl
+  variable_filled x (any_integer t) = refl
   variable_filled x (pointer b o) = refl
   variable_filled x (home b) = refl
   variable_filled x absent = refl
 
   held_filled : (c : Content) (s : Slot) → held c (fill_slot ss s) ≡ fill_terms ss (held c s)
   held_filled (content.Integer k) (whole l t) = refl
+  held_filled (content.Integer k) (any_integer t) = refl
   held_filled (content.Integer k) (pointer b o) = refl
   held_filled (content.Integer k) (home b) = refl
   held_filled (content.Integer k) absent = refl
   held_filled content.Pointer (whole l t) = refl
+  held_filled content.Pointer (any_integer t) = refl
   held_filled content.Pointer (pointer b o) = refl
   held_filled content.Pointer (home b) = refl
   held_filled content.Pointer absent = refl
   held_filled (content.Struct n) (whole l t) = refl
+  held_filled (content.Struct n) (any_integer t) = refl
   held_filled (content.Struct n) (pointer b o) = refl
   held_filled (content.Struct n) (home b) = refl
   held_filled (content.Struct n) absent = refl

@@ -4,7 +4,7 @@ use Rattle.wp_base.specs.declared.kinds.Kind.{Kind}
 use Rattle.typed_prog.specs.declared.operators.Variable.{Variable}
 use Rattle.qed_terms.specs.Tree.{Tree}
 use Rattle.program_steps.specs.Leaves.{is_marked, is_closed}
-use Rattle.acsl_encode.specs.Readings.{Terms, integer, truth, address, variable, elements, region, nothing, Pointer, Slot, whole, pointer, home, absent}
+use Rattle.acsl_encode.specs.Readings.{Terms, integer, truth, address, variable, elements, region, nothing, Pointer, Slot, whole, any_integer, pointer, home, absent}
 use Rattle.acsl_encode.specs.Readings.{Seen, Reading}
 use Rattle.acsl_encode.specs.Meaning.{Holds}
 
@@ -26,6 +26,7 @@ TermsClosed xs nothing = Unit {0}
 
 abbrev pub SlotClosed : Slot → Type 0
 SlotClosed (whole k t) = IsClosed [] t
+SlotClosed (any_integer t) = IsClosed [] t
 SlotClosed (pointer b o) = IsClosed [] b × IsClosed [] o
 SlotClosed (home b) = IsClosed [] b
 SlotClosed absent = Unit {0}

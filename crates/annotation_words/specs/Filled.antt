@@ -3,7 +3,7 @@ use Rattle.std.specs.Prelude.{List}
 use Rattle.std.specs.Option.{option_map}
 use Rattle.walk_steps.specs.Forms.{Slots}
 use Rattle.program_steps.specs.Leaves.{fill}
-use Rattle.acsl_encode.specs.Readings.{Terms, integer, truth, address, variable, elements, region, nothing, Pointer, at, Slot, whole, pointer, home, absent}
+use Rattle.acsl_encode.specs.Readings.{Terms, integer, truth, address, variable, elements, region, nothing, Pointer, at, Slot, whole, any_integer, pointer, home, absent}
 use Rattle.acsl_encode.specs.Readings.{Seen, Reading}
 
 module _ (ss : List Slots) where
@@ -21,6 +21,7 @@ module _ (ss : List Slots) where
 
   abbrev pub fill_slot : Slot → Slot
   fill_slot (whole k t) = whole k (fill ss t)
+  fill_slot (any_integer t) = any_integer (fill ss t)
   fill_slot (pointer b o) = pointer (fill ss b) (fill ss o)
   fill_slot (home b) = home (fill ss b)
   fill_slot absent = absent

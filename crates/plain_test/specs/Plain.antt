@@ -1,6 +1,5 @@
--- Files over integers that no pointer leads to: without pointer, array and struct, and without a variable whose address is taken (C11 6.2.5, 6.5.3.2). That is
--- the language that is built today. Each constant and each label is a number of its kind, as in every typed file
--- (C11 6.4.4.1p5, 6.6p4).
+-- Files over integers that no pointer leads to: without pointer, array and struct, and without a variable whose address is taken (C11 6.2.5, 6.5.3.2). For
+-- such files programs, runs and goals are proved to fit. Each constant and each label is a number of its kind, as in every typed file (C11 6.4.4.1p5, 6.6p4).
 use Rattle.std.specs.Prelude.{ℕ, ℤ, ◌+◌, Bool, true, false, ◌&&◌, ◌||◌, is_some, List, [], ◌∷◌, Option, Some, None, slice_index_or}
 use Rattle.std.specs.List.{list_all}
 use Rattle.wp_base.specs.declared.kinds.Kind.{Kind}

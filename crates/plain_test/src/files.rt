@@ -68,7 +68,7 @@ fn are_plain_bodies(model: Machdep, bodies: &[Body<'_>]) -> bool
 }
 
 /// Whether the file is over integers that no pointer leads to: without pointer, array and struct, and without a variable whose address is
-/// taken. The program is built for such files.
+/// taken. For such files goals of whole programs are proved to say what runs do.
 #[tactic(auto, unfolding(crate::specs::Plain::is_plain_file))]
 pub fn is_plain(typed: &Typed<'_>) -> bool
     ensures { result ≡ spec.is_plain_file (view_typed typed.now) }

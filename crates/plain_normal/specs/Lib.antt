@@ -1,4 +1,5 @@
 pub mod Single
 pub mod Plain
+pub mod Jumps
 pub mod Typed
 pub mod Laws

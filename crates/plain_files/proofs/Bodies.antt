@@ -31,7 +31,7 @@ use Rattle.c_typed_files.specs.Functions as g
 use Rattle.c_typed_files.specs.Functions.{IsBody, HasBody, IsFunction}
 use Rattle.plain_runs.specs.Fitting.{is_param}
 use Rattle.plain_programs.proofs.Growing.{Grows, stmt_grows, stmts_grow}
-use Rattle.plain_files.specs.Blocks.{is_declaration, Nests, BodyNests, DeclNests, ProgramNests}
+use Rattle.plain_files.specs.Blocks.{is_declaration, Nests, JumpsStand, BodyNests, DeclNests, ProgramNests}
 use Rattle.plain_files.proofs.Names.{some_is, no_some, new_means, declared_means}
 use Rattle.plain_files.proofs.Scoping.{on_test}
 use Rattle.plain_files.proofs.Contexts.{NoLocals, InScope}
@@ -62,6 +62,7 @@ pub record IsBodyOf (f : File) (b : u.Body) : Type 0 where
   pub typed : IsBody before spelled b.stmt after
   pub nests : Nests spelled
   pub block : is_declaration spelled ≡ false
+  pub jumps : JumpsStand false false spelled
   pub file : FileGrows after.scope.file f
   pub locals : after.scope.local.objects ≡ b.locals
   pub signature : Signature
@@ -79,6 +80,7 @@ body_grows f f' b h k = record {
   typed = k.typed;
   nests = k.nests;
   block = k.block;
+  jumps = k.jumps;
   file = file_grows_then k.after.scope.file f f' k.file h;
   locals = k.locals;
   signature = k.signature;
@@ -263,8 +265,8 @@ number_is : (c : Context) (h : d.Function) (header : Context) (k : Headed c h he
 number_is c h header k = ap (λ o. unwrap_or (function_number o) 0) k.declared.named
 
 written_body : (c : Context) (h : d.Function) (header : Context) → Headed c h header → NoLocals header.scope.file.names → (behind : Context) (x : p.Stmt) (y : s.Stmt) → IsBody header x y behind → Nests x
-    → is_declaration x ≡ false → IsBodyOf header.scope.file (body_with behind h (declared_number header h) y)
-written_body c h header k none behind x y is nests block =
+    → is_declaration x ≡ false → JumpsStand false false x → IsBodyOf header.scope.file (body_with behind h (declared_number header h) y)
+written_body c h header k none behind x y is nests block jumps =
     let grows = body_context is in
     record {
       before = header;
@@ -273,6 +275,7 @@ written_body c h header k none behind x y is nests block =
       typed = is;
       nests = nests;
       block = block;
+      jumps = jumps;
       file = subst (λ f. FileGrows f header.scope.file) (sym grows.file) (file_grows_self header.scope.file);
       locals = refl;
       signature = k.declared.signature;
@@ -294,7 +297,7 @@ bodied_function c h header k none bs (g.written behind x y is) nests =
     let b = body_with behind h n y in
     record {
       file = (body_context is).file;
-      all = λ a. all_behind (IsBodyOf header.scope.file) bs b a (written_body c h header k none behind x y is nests.0 nests.1);
+      all = λ a. all_behind (IsBodyOf header.scope.file) bs b a (written_body c h header k none behind x y is nests.0 nests.1 nests.2);
       noted = λ done old z e. by b refl old z (noted done h.name z e);
       count = one_more_body bs b;
     } where

@@ -1,9 +1,11 @@
 pub mod Names
+pub mod Leaving
 pub mod Nesting
 pub mod Spelling
 pub mod Scoping
 pub mod Contexts
 pub mod Standing
+pub mod Jumping
 pub mod Declaring
 pub mod Headers
 pub mod Bodies

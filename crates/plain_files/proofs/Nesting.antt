@@ -12,6 +12,7 @@ use Rattle.c_grammar.specs.Stmts.{SpellsFirst, SpellsStmt, SpellsBody, SpellsBlo
 use Rattle.c_grammar.specs.Decls as f
 use Rattle.c_grammar.specs.Decls.{Lines, SpellsEnd, SpellsFunction, SpellsDecl, SpellsDecls}
 use Rattle.plain_files.specs.Blocks.{is_declaration, Nests, AllNest, NoneDeclares, BodyNests, DeclNests, ProgramNests, SpelledProgramsNest}
+use Rattle.plain_files.proofs.Leaving.{block_jumps}
 
 first_nests : {types : Names} {room : ℕ} {ts : List Token} {x : p.Stmt} → SpellsFirst types room ts x → Nests x
 first_nests g.nothing = tt
@@ -83,7 +84,7 @@ mutual
 
 end_nests : {types : Names} {at : ℕ} {ts : List Token} {body : Option p.Stmt} {end : ℕ} {starts : List ℕ} → SpellsEnd types at ts body end starts → BodyNests body
 end_nests f.prototype = tt
-end_nests (f.body x) = (block_nests x, refl)
+end_nests (f.body x) = (block_nests x, refl, block_jumps x)
 
 abbrev FunctionNests : d.Function → Type 0
 FunctionNests h = DeclNests (d.function h)

@@ -1,5 +1,5 @@
 -- Bodies of a typed file, with annotations, in their program.
-use Rattle.std.proofs.Common.{◌≡◌, ℕ, zero, suc, ◌≤◌, true, is_some, List, [], ◌∷◌, map, length, Some, refl, sym, ap, ◌∙◌, subst, slice_get, arith}
+use Rattle.std.proofs.Common.{◌≡◌, ℕ, zero, suc, ◌≤◌, true, false, is_some, List, [], ◌∷◌, map, length, Some, refl, sym, ap, ◌∙◌, subst, slice_get, arith}
 use Rattle.std.proofs.lemmas.Bool.{and_parts}
 use Rattle.typed_prog.specs.declared.types.CoreType.{CoreType}
 use Rattle.typed_prog.specs.Types.{of_kind}
@@ -23,9 +23,11 @@ use Rattle.plain_programs.specs.Values.{Holds, Defines, Meets}
 use Rattle.plain_programs.specs.Standing.{stmts_stand}
 use Rattle.plain_programs.specs.Files.{IsTypedBody, of_block, of_other, BodiesAreTyped, BodiesStand}
 use Rattle.plain_programs.proofs.Variables.{plain_parts, is_found, written_is}
+use Rattle.plain_normal.specs.Jumps.{AllJump, BodiesJump}
 use Rattle.plain_files.proofs.Names.{some_is, no_some}
 use Rattle.plain_files.proofs.Standing.{body_stands}
 use Rattle.plain_files.proofs.Headers.{OfTypes}
+use Rattle.plain_files.proofs.Jumping.{body_jumps}
 use Rattle.plain_files.proofs.Bodies.{IsBodyOf, FileIs}
 use Rattle.plain_files.proofs.Texts.{Fit, text_is, function_there}
 use Rattle.plain_files.proofs.Variables.{as_many, variable_there}
@@ -137,3 +139,11 @@ module _ (t : u.Typed) (a : Annotations) (plain : is_plain_file t ≡ true) (is 
       let stands = body_stands (length (variables_at g x)) k.body.typed k.body.nests k.body.block k.body.scope (omega (arith, all, behind)) x.notes (length g.params) (sym count) in
       subst (λ (h : Function Stmts). stmts_stand (length h.variables) (is_param h.params) (is_param h.params) 0 h.body ≡ true) (sym found.same)
       (subst (λ m. stmts_stand (length (variables_at g x)) (is_param m) (is_param m) 0 (function_at n g x).body ≡ true) count stands)
+
+  pub bodies_jump : BodiesJump (program_of t a)
+  bodies_jump n f e =
+      let found = is_found t a n f e in
+      let g = found.signature in
+      let x = found.text in
+      let k = known n g x found.declared found.written in
+      subst (λ (h : Function Stmts). AllJump false false h.body) (sym found.same) (body_jumps k.body.typed false false k.body.jumps x.notes (length g.params))

@@ -1,4 +1,5 @@
--- Where declarations stand in a program as spelled: in blocks, and before the loop of a `for` (C11 6.8.2, 6.8.5).
+-- Where declarations stand in a program as spelled: in blocks, and before the loop of a `for` (C11 6.8.2, 6.8.5); and where `break` and `continue` do: inside
+-- of what they leave (C11 6.8.6.2, 6.8.6.3).
 use Rattle.std.specs.Prelude.{◌≡◌, Bool, true, false, List, [], ◌∷◌, Option, Some, None}
 use Rattle.c_syntax.specs.declared.token.Token.{Token}
 use Rattle.c_syntax.specs.Stmt as p
@@ -37,12 +38,36 @@ abbrev mutual
   NoneDeclares p.stop = Unit {0}
   NoneDeclares (p.more x xs) = (is_declaration x ≡ false) × Nests x × NoneDeclares xs
 
+-- whether a loop is around, and whether a loop or a switch is
+abbrev mutual
+  pub JumpsStand : (loops breaks : Bool) → p.Stmt → Type 0
+  JumpsStand loops breaks (p.empty line) = Unit {0}
+  JumpsStand loops breaks (p.expr line a) = Unit {0}
+  JumpsStand loops breaks (p.block line body) = AllJumpsStand loops breaks body
+  JumpsStand loops breaks (p.locals line vars) = Unit {0}
+  JumpsStand loops breaks (p.if_only line test x) = JumpsStand loops breaks x
+  JumpsStand loops breaks (p.if_else line test x y) = JumpsStand loops breaks x × JumpsStand loops breaks y
+  JumpsStand loops breaks (p.while_of line annot test body) = JumpsStand true true body
+  JumpsStand loops breaks (p.do_of line annot body test) = JumpsStand true true body
+  JumpsStand loops breaks (p.for_of line annot first test next body) = JumpsStand loops breaks first × JumpsStand true true body
+  JumpsStand loops breaks (p.switch line a body) = AllJumpsStand loops true body
+  JumpsStand loops breaks (p.case_of line value) = Unit {0}
+  JumpsStand loops breaks (p.default line) = Unit {0}
+  JumpsStand loops breaks (p.break line) = breaks ≡ true
+  JumpsStand loops breaks (p.continue line) = loops ≡ true
+  JumpsStand loops breaks (p.return_of line value) = Unit {0}
+  JumpsStand loops breaks (p.assert line q) = Unit {0}
+
+  pub AllJumpsStand : (loops breaks : Bool) → p.Stmts → Type 0
+  AllJumpsStand loops breaks p.stop = Unit {0}
+  AllJumpsStand loops breaks (p.more x xs) = JumpsStand loops breaks x × AllJumpsStand loops breaks xs
+
 -- ---- programs
 
 -- a prototype has no body
 abbrev pub BodyNests : Option p.Stmt → Type 0
 BodyNests None = Unit {0}
-BodyNests (Some x) = Nests x × (is_declaration x ≡ false)
+BodyNests (Some x) = Nests x × (is_declaration x ≡ false) × JumpsStand false false x
 
 abbrev pub DeclNests : d.Decl → Type 0
 DeclNests (d.struct_decl x) = Unit {0}

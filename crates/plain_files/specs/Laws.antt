@@ -15,6 +15,7 @@ use Rattle.plain_runs.specs.Fitting.{FitsProgram}
 use Rattle.plain_normal.specs.Plain.{IsPlainProgram}
 use Rattle.plain_test.specs.Plain.{is_plain_file}
 use Rattle.plain_programs.specs.Files.{BodiesAreTyped, BodiesStand}
+use Rattle.plain_normal.specs.Jumps.{BodiesJump}
 
 -- A typed file that is plain, with the annotations that typing made of it; the program is one that tokens spell.
 pub record IsOfText (m : Machdep) (ts : List Token) (p : d.Program) (t : u.Typed) (a : Annotations) : Type 0 where
@@ -31,6 +32,10 @@ BodiesOfTextsAreTyped = (m : Machdep) (ts : List Token) (p : d.Program) (t : u.T
 -- each body keeps its scopes
 abbrev pub BodiesOfTextsStand : Type 0
 BodiesOfTextsStand = (m : Machdep) (ts : List Token) (p : d.Program) (t : u.Typed) (a : Annotations) → IsOfText m ts p t a → BodiesStand (program_of t a)
+
+-- in each body jumps stand inside of what they leave
+abbrev pub BodiesOfTextsJump : Type 0
+BodiesOfTextsJump = (m : Machdep) (ts : List Token) (p : d.Program) (t : u.Typed) (a : Annotations) → IsOfText m ts p t a → BodiesJump (program_of t a)
 
 -- So the program is one over plain integers,
 abbrev pub PlainTextsArePlain : Type 0

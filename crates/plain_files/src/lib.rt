@@ -4,6 +4,6 @@
 mod laws;
 
 pub use laws::{
-    bodies_of_texts_are_typed, bodies_of_texts_stand, plain_texts_are_plain, plain_texts_fit,
-    spelled_programs_nest,
+    bodies_of_texts_are_typed, bodies_of_texts_jump, bodies_of_texts_stand, plain_texts_are_plain,
+    plain_texts_fit, spelled_programs_nest,
 };

@@ -18,17 +18,17 @@ use Rattle.core_checks.specs.Tree.{Steps}
 use Rattle.plain_states.specs.Slots.{State}
 use Rattle.plain_runs.specs.Fitting.{Shape}
 use Rattle.program_steps.specs.Leaves.{is_closed, leaves_of}
-use Rattle.program_steps.specs.Terms.{Texts, entry_reading, or_none, claim_tree, assumed_tree}
+use Rattle.program_steps.specs.Terms.{Texts, entry_reading, or_none, claim_tree, assumed_tree, or_zero}
 use Rattle.program_steps.specs.Words.{under}
 use Rattle.program_steps.specs.Standing.{SeenBy}
-use Rattle.program_steps.specs.Typed.{ClaimFits}
+use Rattle.program_steps.specs.Typed.{ClaimFits, MeasureFits}
 use Rattle.program_steps.specs.Functions.{AllOf}
 use Rattle.program_steps.specs.Placed.{all_told}
 use Rattle.program_steps.proofs.Granting.{and_so}
 use Rattle.call_words.specs.Callee.{entered_at, returned_from}
 use Rattle.call_words.specs.Sets.{callee_assumes}
-use Rattle.call_words.specs.Words.{or_zero, entry_claim, required_trees, all_required, call_requires, lower_by, promise, promised_trees, all_promised, call_promises}
-use Rattle.call_words.specs.Fits.{SeenCall, SeenBack, EntryFits, PromiseFits, EntryMeasureFits, CalleeBehaviorFits, IfMeasured, CalleeFits, MeasureFits}
+use Rattle.call_words.specs.Words.{entry_claim, required_trees, all_required, call_requires, lower_by, promise, promised_trees, all_promised, call_promises}
+use Rattle.call_words.specs.Fits.{SeenCall, SeenBack, EntryFits, PromiseFits, EntryMeasureFits, CalleeBehaviorFits, IfMeasured, CalleeFits}
 use Rattle.call_words.proofs.Tells.{Tells, AllTell, none_tell, more_tell, both_tell, all_as, all_tell, they_tell, one_tells, under_tells}
 
 module _ (m : sense.World) (p : Facts) (s : Shape) (texts : Texts) (sts : List State) where
@@ -127,17 +127,17 @@ module _ (m : sense.World) (p : Facts) (s : Shape) (texts : Texts) (sts : List S
         is_lower true (Some a) (Some b) = is_less (number_at p w0 a.what) (number_at p w b.what)
         is_lower c old now = true
 
-        pub lower_told : (c : Bool) (old now : Option Measure) → IfMeasured m p s texts g es (MeasureFits m p s texts g es) old → IfMeasured m p s texts g es (EntryMeasureFits m p s texts g es) now
-            → all_told m sts (lower_by p s texts g es e c old now) ≡ is_lower c old now
+        pub lower_told : (c : Bool) (old now : Option Measure) → IfMeasured m p s texts g es (λ a. (entry : ℕ) → MeasureFits m p s texts a entry entry entry) old
+            → IfMeasured m p s texts g es (EntryMeasureFits m p s texts g es) now → all_told m sts (lower_by p s texts g es e c old now) ≡ is_lower c old now
         lower_told false old now h k = refl
         lower_told true None now h k = refl
         lower_told true (Some a) None h k = refl
         lower_told true (Some a) (Some b) h k =
             let u = or_zero (encode.term_of (entry_reading p s texts e a.what) a.what) in
             let v = or_zero (encode.term_of (entered_at p s texts g es 0 b.what) b.what) in
-            let closed_u : is_closed [] u ≡ true = ap (λ o. is_closed [] (or_zero o)) (h.is e) ∙ h.closed e in
+            let closed_u : is_closed [] u ≡ true = ap (λ o. is_closed [] (or_zero o)) (h e).is ∙ (h e).closed in
             let closed_v : is_closed [] v ≡ true = ap (λ o. is_closed [] (or_zero o)) k.is ∙ k.closed in
-            let is_u : value m env u ≡ number_at p w0 a.what = ap (λ o. value m env (or_zero o)) (h.is e) ∙ h.means e w0 sts entry in
+            let is_u : value m env u ≡ number_at p w0 a.what = ap (λ o. value m env (or_zero o)) (h e).is ∙ (h e).means w0 sts entry in
             let is_v : value m env v ≡ number_at p w b.what = ap (λ o. value m env (or_zero o)) k.is ∙ k.means w sts seen in
             one_tells m sts (and_of (at_most (num (pos 0)) u ∷ less v u ∷ [])) (is_less (number_at p w0 a.what) (number_at p w b.what)) (record {
               closed_so = (λ i. (true && (closed_u i && true)) && ((closed_v i && (closed_u i && true)) && true));

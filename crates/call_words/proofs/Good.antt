@@ -25,8 +25,8 @@ use Rattle.program_steps.specs.Stops.{broken_place}
 use Rattle.program_steps.specs.Terms.{Texts, reading}
 use Rattle.program_steps.specs.Words.{Point, write_trees, check, items_step}
 use Rattle.program_steps.proofs.Filling.{forms_are_good}
-use Rattle.call_words.specs.Sets.{inclusion_trees, may_differ, file_changes, all_stay}
-use Rattle.call_words.specs.Words.{one_further, change_at, call_requires, lower_by, call_promises, answer_step, answer_term, placed_in, received, behind_call, call_by}
+use Rattle.call_words.specs.Sets.{inclusion_trees, may_differ, file_changes}
+use Rattle.call_words.specs.Words.{one_further, change_at, call_requires, lower_by, stay_trees, call_promises, answer_step, answer_term, placed_in, received, behind_call, call_by}
 use Rattle.call_words.specs.Laws.{CallsAreGood}
 
 module _ (m : sense.World) where
@@ -80,7 +80,7 @@ module _ (m : sense.World) where
     behind_good pt to g es = (
       changes_good p g.contract 0 p.globals,
       (
-        known_good (all_stay p s texts g es g.contract.behaviors),
+        known_good (stay_trees p s texts g es),
         (answer_good g.result, (known_good (call_promises p s texts g es), received_good pt to (answer_term m p s texts contract functions g.result))),
       ),
     )

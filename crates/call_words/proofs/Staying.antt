@@ -30,6 +30,7 @@ use Rattle.plain_runs.proofs.Whole.{outer}
 use Rattle.program_steps.specs.Leaves.{leaf}
 use Rattle.program_steps.specs.Terms.{Texts, has_variable}
 use Rattle.program_steps.specs.Words.{under, lacks}
+use Rattle.program_steps.specs.Staying.{stay_of, stays_from, all_stay}
 use Rattle.program_steps.specs.Functions.{AllOf}
 use Rattle.program_steps.specs.Placed.{all_told}
 use Rattle.program_steps.proofs.Filling.{on_bool}
@@ -38,7 +39,7 @@ use Rattle.program_steps.proofs.Granting.{and_so, all_append}
 use Rattle.program_steps.proofs.Scoping.{found_at}
 use Rattle.program_steps.proofs.Seeing.{in_file}
 use Rattle.program_steps.proofs.Starting.{leaf_closed}
-use Rattle.call_words.specs.Sets.{callee_assumes, may_differ, stay, stays, all_stay}
+use Rattle.call_words.specs.Sets.{callee_assumes, may_differ}
 use Rattle.call_words.specs.Fits.{SeenCall, FileSetFits, CalleeBehaviorFits, CalleeFits}
 use Rattle.call_words.proofs.Tells.{Tells, AllTell, none_tell, more_tell, both_tell, all_as, under_tells, they_tell}
 use Rattle.call_words.proofs.Claims.{callee_assumed}
@@ -142,11 +143,20 @@ module _ (m : sense.World) (p : Facts) (s : Shape) (texts : Texts) (g : Function
   all_stays [] = true
   all_stays (b ∷ bs) = stays_are b 0 p.globals && all_stays bs
 
+  abbrev stay : Behavior → ℕ → List Tree
+  stay b x = stay_of (callee_assumes p s texts g es 1 b) b.assigns (may_differ g.contract) x
+
+  abbrev stays : Behavior → ℕ → List Variable → List Tree
+  stays b x vs = stays_from (callee_assumes p s texts g es 1 b) b.assigns (may_differ g.contract) x vs
+
+  abbrev pub staying : List Behavior → List Tree
+  staying bs = all_stay (callee_assumes p s texts g es 1) (may_differ g.contract) p.globals bs
+
   module _ (olds : List State) (seen : SeenCall m p s texts g es entry (st' ∷ st ∷ olds) 1) where
     abbrev sts : List State
     sts = st' ∷ st ∷ olds
 
-    stay_tells : (b : Behavior) → CalleeBehaviorFits m p s texts g es b → (x : ℕ) → AllTell m sts (stay p s texts g es b x) (stay_is b x)
+    stay_tells : (b : Behavior) → CalleeBehaviorFits m p s texts g es b → (x : ℕ) → AllTell m sts (stay b x) (stay_is b x)
     stay_tells b fit x = by (may_differ g.contract x && lacks b.assigns (variables.Global x)) where
       same_slots : Tree
       same_slots = equal (leaf 0 (value_slot x)) (leaf 1 (value_slot x))
@@ -169,17 +179,17 @@ module _ (m : sense.World) (p : Facts) (s : Shape) (texts : Texts) (g : Function
           (λ e. absurd (false≢true e))) (none_tell m sts))
       by false = none_tell m sts
 
-    stays_tell : (b : Behavior) → CalleeBehaviorFits m p s texts g es b → (x : ℕ) (vs : List Variable) → AllTell m sts (stays p s texts g es b x vs) (stays_are b x vs)
+    stays_tell : (b : Behavior) → CalleeBehaviorFits m p s texts g es b → (x : ℕ) (vs : List Variable) → AllTell m sts (stays b x vs) (stays_are b x vs)
     stays_tell b fit x [] = none_tell m sts
-    stays_tell b fit x (v ∷ vs) = both_tell m sts (stay p s texts g es b x) (stays p s texts g es b (suc x) vs) (stay_is b x) (stays_are b (suc x) vs) (stay_tells b fit x) (stays_tell b fit (suc x) vs)
+    stays_tell b fit x (v ∷ vs) = both_tell m sts (stay b x) (stays b (suc x) vs) (stay_is b x) (stays_are b (suc x) vs) (stay_tells b fit x) (stays_tell b fit (suc x) vs)
 
-    all_stay_tell : (bs : List Behavior) → AllOf (CalleeBehaviorFits m p s texts g es) bs → AllTell m sts (all_stay p s texts g es bs) (all_stays bs)
+    all_stay_tell : (bs : List Behavior) → AllOf (CalleeBehaviorFits m p s texts g es) bs → AllTell m sts (staying bs) (all_stays bs)
     all_stay_tell [] fit = none_tell m sts
     all_stay_tell (b ∷ bs) fit =
-        both_tell m sts (stays p s texts g es b 0 p.globals) (all_stay p s texts g es bs) (stays_are b 0 p.globals) (all_stays bs) (stays_tell b fit.0 0 p.globals) (all_stay_tell bs fit.1)
+        both_tell m sts (stays b 0 p.globals) (staying bs) (stays_are b 0 p.globals) (all_stays bs) (stays_tell b fit.0 0 p.globals) (all_stay_tell bs fit.1)
 
-    pub stays_told : (bs : List Behavior) → AllOf (CalleeBehaviorFits m p s texts g es) bs → all_told m sts (all_stay p s texts g es bs) ≡ all_stays bs
-    stays_told bs fit = they_tell m sts (all_stay p s texts g es bs) (all_stays bs) (all_stay_tell bs fit)
+    pub stays_told : (bs : List Behavior) → AllOf (CalleeBehaviorFits m p s texts g es) bs → all_told m sts (staying bs) ≡ all_stays bs
+    stays_told bs fit = they_tell m sts (staying bs) (all_stays bs) (all_stay_tell bs fit)
 
   -- ---- the one by the other
 

@@ -47,8 +47,8 @@ use Rattle.program_steps.specs.Placed.{InSetting, all_told, Placed, BothWays}
 use Rattle.program_steps.proofs.Filling.{on_bool}
 use Rattle.program_steps.proofs.Asking.{behind}
 use Rattle.program_steps.proofs.Standing.{file_fits}
-use Rattle.call_words.specs.Sets.{may_differ, file_changes, all_stay}
-use Rattle.call_words.specs.Words.{call_promises, answer_step, answer_term, received, behind_call}
+use Rattle.call_words.specs.Sets.{may_differ, file_changes}
+use Rattle.call_words.specs.Words.{stay_trees, call_promises, answer_step, answer_term, received, behind_call}
 use Rattle.call_words.specs.Fits.{SeenCall, ResultGoes, none_nowhere, none_to, goes_to, CallFits}
 use Rattle.call_words.proofs.Views.{sees}
 use Rattle.call_words.proofs.Claims.{is_none, call_promises_told}
@@ -169,7 +169,7 @@ module _ (m : sense.World) (q : Program Steps) (s : Shape) (texts : Texts) (cont
   answer_word = step.seq (answer_step m p s texts contract q.functions g.result) known_word
 
   abbrev stay_word : Step
-  stay_word = step.seq (step.know (map (form m) (all_stay p s texts g es g.contract.behaviors))) answer_word
+  stay_word = step.seq (step.know (map (form m) (stay_trees p s texts g es))) answer_word
 
   abbrev inner : Step
   inner = step.seq (step.change (file_changes p g.contract 0 p.globals)) stay_word
@@ -219,7 +219,7 @@ module _ (m : sense.World) (q : Program Steps) (s : Shape) (texts : Texts) (cont
           same = λ d. sym (plain_fixed m p s texts g es setting.globals mem vs one st fits.callee keeps.0 x y e d) ∙ one_value x (found_below p.globals x y e);
         }))
 
-    stay_told : all_told m (one ∷ st ∷ olds) (all_stay p s texts g es g.contract.behaviors) ≡ true
+    stay_told : all_told m (one ∷ st ∷ olds) (stay_trees p s texts g es) ≡ true
     stay_told = stays_told m p s texts g es setting.globals mem vs one st olds (seen_before one) g.contract.behaviors fits.callee.behaviors
         ∙ keeps_stay m p s texts g es setting.globals mem vs one st g.contract.behaviors keeps.1
 
@@ -269,7 +269,7 @@ module _ (m : sense.World) (q : Program Steps) (s : Shape) (texts : Texts) (cont
     forth_by n o h =
         let x = (result_goes u v two two_stands filled.result n).forth o h in (
           on_state (put_back (a ∷ []) st) x.0,
-          seg.remembers (seg.scopes (seg.goes_both (seg.changes changes) (behind (seg.goes_both (seg.knows_so (known_so m (one ∷ st ∷ olds) (all_stay p s texts g es g.contract.behaviors) stay_told))
+          seg.remembers (seg.scopes (seg.goes_both (seg.changes changes) (behind (seg.goes_both (seg.knows_so (known_so m (one ∷ st ∷ olds) (stay_trees p s texts g es) stay_told))
               (behind (then_answer m p s texts contract q (st ∷ olds) n known_word g.result one two one_long filled.answered x.0
               (seg.goes_both (seg.knows_so (known_so m (two ∷ st ∷ olds) (call_promises p s texts g es) known_told)) (behind x.1)))))))),
           ends_back m p s setting t0 i pt.outs f (places whole) n st o x.0 (subst (λ ps. EndsAt ps n o x.0) (sym same_places) x.2),
@@ -278,7 +278,7 @@ module _ (m : sense.World) (q : Program Steps) (s : Shape) (texts : Texts) (cont
   -- ---- back
 
   module _ (one : State) (changed : FileChanged p (st ∷ st ∷ olds) g.contract 0 p.globals st one)
-      (stay : all_told m (one ∷ st ∷ olds) (all_stay p s texts g es g.contract.behaviors) ≡ true) (two : State) (answered : Answered m p s texts contract q g.result one two)
+      (stay : all_told m (one ∷ st ∷ olds) (stay_trees p s texts g es) ≡ true) (two : State) (answered : Answered m p s texts contract q g.result one two)
       (known : all_told m (two ∷ st ∷ olds) (call_promises p s texts g es) ≡ true) where
     differs : (x : ℕ) (y : Variable) → slice_get p.globals x ≡ Some y → Differs p (st ∷ st ∷ olds) g.contract x y (at st (value_slot x)) (at one (value_slot x))
     differs x y e = let n : 0 + x ≡ x = omega arith in subst (λ n. Differs p (st ∷ st ∷ olds) g.contract n y (at st (value_slot x)) (at one (value_slot x))) n (changed.values x y e)
@@ -332,7 +332,7 @@ module _ (m : sense.World) (q : Program Steps) (s : Shape) (texts : Texts) (cont
       let long : a < length x.0 = (let d = changed.size in let b = in_list in omega (arith, d, b)) in
       let z = answer_then m p s texts contract q (st ∷ olds) n known_word to i g.result fits.result x.0 long e y.1 in
       let w = knows_then z.2 in
-      back_by x.0 changed (so_known m (x.0 ∷ st ∷ olds) (all_stay p s texts g es g.contract.behaviors) y.0) z.0 z.1 (so_known m (z.0 ∷ st ∷ olds) (call_promises p s texts g es) w.0) n e w.1
+      back_by x.0 changed (so_known m (x.0 ∷ st ∷ olds) (stay_trees p s texts g es) y.0) z.0 z.1 (so_known m (z.0 ∷ st ∷ olds) (call_promises p s texts g es) w.0) n e w.1
 
   pub tail_both : (n : ℕ) → BothWays Returns (EndsAt (places whole) n) olds n whole st
   tail_both n = record {

@@ -23,8 +23,8 @@ use Rattle.walk_words.specs.Changes.{ranged}
 use Rattle.program_steps.specs.Leaves.{leaf}
 use Rattle.program_steps.specs.Terms.{Texts}
 use Rattle.program_steps.specs.Words.{Force, of_function, of_loop, Point}
-use Rattle.call_words.specs.Sets.{inclusion_trees, file_changes, all_stay}
-use Rattle.call_words.specs.Words.{call_requires, lower_by, call_promises, call_word}
+use Rattle.call_words.specs.Sets.{inclusion_trees, file_changes}
+use Rattle.call_words.specs.Words.{call_requires, lower_by, stay_trees, call_promises, call_word}
 
 -- ---- a file with `int` variables g and h, and a function with a parameter x, a local y and a temporary; it calls one with a parameter a that gives an `int`
 
@@ -133,7 +133,7 @@ pub record Included (type : CoreType) : Type 0 where
 pub record Behind (type : CoreType) : Type 0 where
   pub one_changes : file_changes file (clauses (names (1 ∷ [])) None) 0 file.globals ≡ keeps ∷ keeps ∷ any_int ∷ keeps ∷ []
   pub all_change : file_changes file (clauses None (names (0 ∷ []))) 0 file.globals ≡ any_int ∷ keeps ∷ any_int ∷ keeps ∷ []
-  pub stays : all_stay file function texts (callee None (names (0 ∷ []))) (argument type) (clauses None (names (0 ∷ []))).behaviors
+  pub stays : stay_trees file function texts (callee None (names (0 ∷ []))) (argument type)
       ≡ imp_of (positive (leaf 1 0)) (equal (leaf 0 2) (leaf 1 2)) ∷ []
   pub promises : call_promises file function texts (callee None None) (argument type) ≡ less (a_at 1) (leaf 0 9) ∷ imp_of (positive (leaf 1 0)) (positive (leaf 0 0)) ∷ []
 

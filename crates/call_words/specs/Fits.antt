@@ -33,9 +33,8 @@ use Rattle.value_terms.specs.Typed.{AreTyped, operand_kind}
 use Rattle.walk_steps.specs.State.{at_or}
 use Rattle.program_steps.specs.Leaves.{is_closed, leaves_of}
 use Rattle.program_steps.specs.Temporaries.{Temporaries, live}
-use Rattle.program_steps.specs.Terms.{Texts, reading, entry_reading}
-use Rattle.program_steps.specs.Standing.{SeenBy}
-use Rattle.program_steps.specs.Typed.{is_closed_item, scope_at, ClaimFits, Takes}
+use Rattle.program_steps.specs.Terms.{Texts, reading}
+use Rattle.program_steps.specs.Typed.{is_closed_item, scope_at, ClaimFits, MeasureFits, Takes}
 use Rattle.program_steps.specs.Functions.{AllOf, SetFits}
 use Rattle.call_words.specs.Callee.{argument, entered_at, returned_from}
 
@@ -123,12 +122,6 @@ module _ (m : sense.World) (p : Facts) (s : Shape) (texts : Texts) (g : Function
 
   -- ---- annotations of the caller
 
-  pub record MeasureFits (a : acsl.Tree) : Type 0 where
-    pub term : (entry : ℕ) → Tree
-    pub is : (entry : ℕ) → encode.term_of (entry_reading p s texts entry a) a ≡ Some (term entry)
-    pub closed : (entry : ℕ) → is_closed [] (term entry) ≡ true
-    pub means : (entry : ℕ) (w : labelled.World) (sts : List State) → SeenBy p s w sts entry entry entry → value m (leaves_of sts) (term entry) ≡ number_at p w a
-
   pub record CallerBehaviorFits (b : Behavior) : Type 0 where
     pub assumes : AllOf (λ a. (entry : ℕ) → ClaimFits m p s texts a entry entry entry) b.assumes
     pub assigns : SetFits p s b.assigns
@@ -137,7 +130,7 @@ module _ (m : sense.World) (p : Facts) (s : Shape) (texts : Texts) (g : Function
     pub assumes : c.plain.assumes ≡ []
     pub plain : CallerBehaviorFits c.plain
     pub behaviors : AllOf CallerBehaviorFits c.behaviors
-    pub measure : IfMeasured MeasureFits c.decreases
+    pub measure : IfMeasured (λ a. (entry : ℕ) → MeasureFits m p s texts a entry entry entry) c.decreases
 
 -- ---- the result
 

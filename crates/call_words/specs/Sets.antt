@@ -1,22 +1,20 @@
--- Sets of a function that is called (ACSL 2.3.2): whether they lie in the set in force, what a call changes, and what stays by a behavior. Only variables of
--- the file count, since a function's clauses name none of its own.
-use Rattle.std.specs.Prelude.{ℕ, suc, Bool, true, false, not, ◌&&◌, if◌then◌else◌, List, [], ◌∷◌, ◌++◌, Option, Some, None}
+-- Sets of a function that is called (ACSL 2.3.2): whether they lie in the set in force, and what a call changes. Only variables of the file count, since a
+-- function's clauses name none of its own.
+use Rattle.std.specs.Prelude.{ℕ, suc, Bool, true, false, not, if◌then◌else◌, List, [], ◌∷◌, ◌++◌, Option, Some, None}
 use Rattle.std.specs.List.{list_all}
 use Rattle.typed_prog.specs.Tree as t
 use Rattle.typed_prog.specs.declared.operators.Variable.TheVariants as variables
 use Rattle.acsl_trees.specs.Tree as acsl
 use Rattle.acsl_trees.specs.declared.heads.Head.TheVariants as head
-use Rattle.qed_terms.specs.Tree.{Tree, true_tree, false_tree, equal, and_of}
+use Rattle.qed_terms.specs.Tree.{Tree, true_tree, false_tree, and_of}
 use Rattle.c_kinds.specs.Models.{low, high}
 use Rattle.c_runs.specs.Program as program
 use Rattle.c_runs.specs.Program.{Behavior, Contract, Function, Facts}
 use Rattle.core_checks.specs.Tree.{Steps}
-use Rattle.plain_states.specs.Slots.{value_slot}
 use Rattle.plain_states.specs.Scopes.{kind_of}
 use Rattle.plain_runs.specs.Fitting.{Shape}
 use Rattle.walk_steps.specs.Step.{Change, keeps}
 use Rattle.walk_words.specs.Changes.{ranged}
-use Rattle.program_steps.specs.Leaves.{leaf}
 use Rattle.program_steps.specs.Terms.{Texts, entry_reading, assumed_tree, has_variable}
 use Rattle.program_steps.specs.Words.{Force, of_function, of_loop, Point, as_one, under, lacks}
 use Rattle.program_steps.specs.Functions.{any_of}
@@ -90,19 +88,3 @@ module _ (p : Facts) (c : Contract) where
   abbrev pub file_changes : (number : ℕ) → List program.Variable → List Change
   file_changes x [] = []
   file_changes x (v ∷ vs) = file_change x v ∷ keeps ∷ file_changes (suc x) vs
-
--- ---- what stays by a behavior
-
-module _ (p : Facts) (s : Shape) (texts : Texts) (g : Function Steps) (es : t.Values) where
-  abbrev pub stay : Behavior → (number : ℕ) → List Tree
-  stay b x =
-      if may_differ g.contract x && lacks b.assigns (variables.Global x)
-      then under false (callee_assumes p s texts g es 1 b) (equal (leaf 0 (value_slot x)) (leaf 1 (value_slot x))) ∷ [] else []
-
-  abbrev pub stays : Behavior → (number : ℕ) → List program.Variable → List Tree
-  stays b x [] = []
-  stays b x (v ∷ vs) = stay b x ++ stays b (suc x) vs
-
-  abbrev pub all_stay : List Behavior → List Tree
-  all_stay [] = []
-  all_stay (b ∷ bs) = stays b 0 p.globals ++ all_stay bs

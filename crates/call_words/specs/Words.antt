@@ -20,15 +20,11 @@ use Rattle.walk_steps.specs.Step.{Change, keeps, Step, skip, halt, seq, know, se
 use Rattle.walk_words.specs.Changes.{ranged}
 use Rattle.program_steps.specs.Leaves.{leaf, form, number}
 use Rattle.program_steps.specs.Stops.{broken_place}
-use Rattle.program_steps.specs.Terms.{Texts, reading, entry_reading, claim_tree}
+use Rattle.program_steps.specs.Terms.{Texts, reading, entry_reading, claim_tree, or_zero}
 use Rattle.program_steps.specs.Words.{Point, under, write_trees, variable_number, ask_all, items_step, set_variable}
+use Rattle.program_steps.specs.Staying.{all_stay}
 use Rattle.call_words.specs.Callee.{entered_at, returned_from}
-use Rattle.call_words.specs.Sets.{callee_assumes, inclusion_trees, file_changes, all_stay}
-
--- a measure without a term counts as 0
-abbrev pub or_zero : Option Tree → Tree
-or_zero (Some u) = u
-or_zero None = num (pos 0)
+use Rattle.call_words.specs.Sets.{callee_assumes, inclusion_trees, may_differ, file_changes}
 
 -- with one more state that is remembered
 abbrev pub one_further : Point → Point
@@ -64,6 +60,10 @@ module _ (p : Facts) (s : Shape) (texts : Texts) (g : Function Steps) (es : t.Va
   lower_by e _ old now = []
 
   -- ---- what is known behind it
+
+  -- what a behavior doesn't name of what may differ
+  abbrev pub stay_trees : List Tree
+  stay_trees = all_stay (callee_assumes p s texts g es 1) (may_differ g.contract) p.globals g.contract.behaviors
 
   abbrev pub promise : Claim → Tree
   promise c = claim_tree p s texts (returned_from p s texts g es) c.what
@@ -110,7 +110,7 @@ module _ (m : sense.World) (p : Facts) (s : Shape) (texts : Texts) (contract : C
   behind_call pt to g es =
       remember (scope (answer_slot (sizes p s) ∷ [])
       (seq (change (file_changes p g.contract 0 p.globals))
-      (seq (know (map (form m) (all_stay p s texts g es g.contract.behaviors)))
+      (seq (know (map (form m) (stay_trees p s texts g es)))
       (seq (answer_step g.result)
       (seq (know (map (form m) (call_promises p s texts g es)))
       (received pt to (answer_term g.result)))))))

@@ -20,16 +20,15 @@ use Rattle.walk_steps.specs.Run.{End, goes_on, leaves, fails, Seg}
 use Rattle.walk_steps.specs.Run as seg
 use Rattle.program_steps.specs.Leaves.{is_closed, closed, leaves_of, form}
 use Rattle.program_steps.specs.Stops.{broken_place, kept_place, IsStop}
-use Rattle.program_steps.specs.Terms.{Texts, body_reading, or_none, claim_tree}
+use Rattle.program_steps.specs.Terms.{Texts, body_reading, or_none, claim_tree, or_zero}
 use Rattle.program_steps.specs.Words.{Point, check}
 use Rattle.program_steps.specs.Standing.{SeenBy, FailsAs}
-use Rattle.program_steps.specs.Typed.{ClaimFits}
+use Rattle.program_steps.specs.Typed.{ClaimFits, MeasureFits}
 use Rattle.program_steps.specs.Placed.{all_told}
 use Rattle.program_steps.specs.Functions.{AllOf}
 use Rattle.program_steps.proofs.Asking.{closed_told}
 use Rattle.program_steps.proofs.Tests.{Comes, none_come, more_come, one_comes, Asks, goes, stops, asks_way}
-use Rattle.loop_words.specs.Words.{head_tree, entry_check, kept_check, or_zero, measure_tree, variant_checks, end_checks}
-use Rattle.loop_words.specs.Fits.{MeasureFits}
+use Rattle.loop_words.specs.Words.{head_tree, entry_check, kept_check, measure_tree, variant_checks, end_checks}
 
 -- ---- lists of formulas
 
@@ -133,11 +132,11 @@ module _ (m : sense.World) (p : Facts) (s : Shape) (texts : Texts) where
 
   module _ (pt : Point) (before now : labelled.World) (sts : List State) (seen_before : SeenBy p s before sts 1 (suc (suc (suc pt.entry))) 2) (seen_now : SeenBy p s now sts 0 (suc (suc (suc pt.entry))) 2) where
     measure_closed : (h e g : ℕ) (a : acsl.Tree) → MeasureFits m p s texts a h e g → is_closed [] (measure_tree p s texts (body_reading p s texts h e g) a) ≡ true
-    measure_closed h e g a fits = ap (λ o. is_closed [] (or_zero p s texts o)) fits.is ∙ fits.closed
+    measure_closed h e g a fits = ap (λ o. is_closed [] (or_zero o)) fits.is ∙ fits.closed
 
     measure_is : (h e g : ℕ) (a : acsl.Tree) → MeasureFits m p s texts a h e g → (w : labelled.World) → SeenBy p s w sts h e g
         → value m (leaves_of sts) (measure_tree p s texts (body_reading p s texts h e g) a) ≡ number_at p w a
-    measure_is h e g a fits w seen = ap (λ o. value m (leaves_of sts) (or_zero p s texts o)) fits.is ∙ fits.means w sts seen
+    measure_is h e g a fits w seen = ap (λ o. value m (leaves_of sts) (or_zero o)) fits.is ∙ fits.means w sts seen
 
     variant_come : (o : Option Measure) → ((v : Measure) → o ≡ Some v → (here entry loop_entry : ℕ) → MeasureFits m p s texts v.what here entry loop_entry)
         → Comes sts (variant_checks p s texts m pt o) (variant_holds p now o (measure_of p before o))

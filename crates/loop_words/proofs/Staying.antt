@@ -25,7 +25,8 @@ use Rattle.program_steps.proofs.Filling.{on_bool}
 use Rattle.program_steps.proofs.Listing.{leaf_value}
 use Rattle.program_steps.proofs.Granting.{all_append}
 use Rattle.program_steps.proofs.Starting.{leaf_closed}
-use Rattle.loop_words.specs.Words.{stays, stays_from, all_stay}
+use Rattle.program_steps.specs.Staying.{stays, stays_from, all_stay}
+use Rattle.loop_words.specs.Words as words
 use Rattle.loop_words.proofs.Telling.{AssumesFit, Tells, told_so, seen_in, assumed_at, assumed_tells}
 
 module _ (m : sense.World) (p : Facts) (s : Shape) (texts : Texts) (q : labelled.State) (olds : List State) (st after : State) (e : ℕ)
@@ -48,7 +49,7 @@ module _ (m : sense.World) (p : Facts) (s : Shape) (texts : Texts) (q : labelled
   -- ---- one variable under one behavior
 
   module _ (b : Behavior) (fits : AssumesFit m p s texts b) where
-    tells : (x : ℕ) → Tells m p s texts sts (imp_of (assumed b) (stays p s texts x)) (not (is_assumed p w b) || is_equal (at after (value_slot x)) (at st (value_slot x)))
+    tells : (x : ℕ) → Tells m p s texts sts (imp_of (assumed b) (stays x)) (not (is_assumed p w b) || is_equal (at after (value_slot x)) (at st (value_slot x)))
     tells x =
         let a = assumed_tells m p s texts sts w (suc (suc e)) (seen_in m p s texts sts (suc (suc e)) q sees) b fits in
         record {
@@ -56,10 +57,10 @@ module _ (m : sense.World) (p : Facts) (s : Shape) (texts : Texts) (q : labelled
           true_so = (λ i. not (a.true_so i) || is_equal (leaf_value m sts 0 (value_slot x) i) (leaf_value m sts 1 (value_slot x) i));
         }
 
-    told : (x : ℕ) → truth m (leaves_of sts) (closed (imp_of (assumed b) (stays p s texts x))) ≡ (not (is_assumed p w b) || is_equal (at after (value_slot x)) (at st (value_slot x)))
-    told x = told_so m p s texts sts (imp_of (assumed b) (stays p s texts x)) (not (is_assumed p w b) || is_equal (at after (value_slot x)) (at st (value_slot x))) (tells x)
+    told : (x : ℕ) → truth m (leaves_of sts) (closed (imp_of (assumed b) (stays x))) ≡ (not (is_assumed p w b) || is_equal (at after (value_slot x)) (at st (value_slot x)))
+    told x = told_so m p s texts sts (imp_of (assumed b) (stays x)) (not (is_assumed p w b) || is_equal (at after (value_slot x)) (at st (value_slot x))) (tells x)
 
-    told_forth : (x : ℕ) → (is_assumed p w b ≡ true → Same x) → truth m (leaves_of sts) (closed (imp_of (assumed b) (stays p s texts x))) ≡ true
+    told_forth : (x : ℕ) → (is_assumed p w b ≡ true → Same x) → truth m (leaves_of sts) (closed (imp_of (assumed b) (stays x))) ≡ true
     told_forth x same = told x ∙ on_bool (is_assumed p w b)
         (λ t. ap (λ a. not a || is_equal (at after (value_slot x)) (at st (value_slot x))) t ∙ equal_at (at after (value_slot x)) (at st (value_slot x)) (same t))
         (λ t. ap (λ a. not a || is_equal (at after (value_slot x)) (at st (value_slot x))) t)
@@ -70,7 +71,7 @@ module _ (m : sense.World) (p : Facts) (s : Shape) (texts : Texts) (q : labelled
         equal_at : (a b : ℤ) → a ≡ b → is_equal a b ≡ true
         equal_at a b h = ap (is_equal a) (sym h) ∙ self a
 
-    told_back : (x : ℕ) → truth m (leaves_of sts) (closed (imp_of (assumed b) (stays p s texts x))) ≡ true → is_assumed p w b ≡ true → Same x
+    told_back : (x : ℕ) → truth m (leaves_of sts) (closed (imp_of (assumed b) (stays x))) ≡ true → is_assumed p w b ≡ true → Same x
     told_back x h t = equal_is (at after (value_slot x)) (at st (value_slot x)) (sym (ap (λ a. not a || is_equal (at after (value_slot x)) (at st (value_slot x))) t) ∙ sym (told x) ∙ h)
 
     module _ (f : ℕ → Bool) where
@@ -78,29 +79,29 @@ module _ (m : sense.World) (p : Facts) (s : Shape) (texts : Texts) (q : labelled
       lets_none x l t = λ i. not (t i) || not (l i)
 
       from_forth : (x : ℕ) (vs : List Variable) → ((i : ℕ) → i < length vs → f (x + i) ≡ true → lets_it (x + i) b ≡ false → Same (x + i))
-          → all_told m sts (stays_from p s texts (assumed b) b.assigns f x vs) ≡ true
+          → all_told m sts (stays_from (assumed b) b.assigns f x vs) ≡ true
       from_forth x [] h = refl
       from_forth x (v ∷ vs) h =
-          all_append (λ g. truth m (leaves_of sts) (closed g)) (if f x && lacks b.assigns (variables.Global x) then imp_of (assumed b) (stays p s texts x) ∷ [] else []) (stays_from p s texts (assumed b) b.assigns f (suc x) vs)
+          all_append (λ g. truth m (leaves_of sts) (closed g)) (if f x && lacks b.assigns (variables.Global x) then imp_of (assumed b) (stays x) ∷ [] else []) (stays_from (assumed b) b.assigns f (suc x) vs)
           ∙ (λ i. first i
           && from_forth (suc x) vs (λ i l. subst (λ n. f n ≡ true → lets_it n b ≡ false → Same n) (let q : x + suc i ≡ suc x + i = omega arith in q) (h (suc i) (omega (arith, l)))) i)
         where
           here : x + 0 ≡ x
           here = omega arith
 
-          first : all_told m sts (if f x && lacks b.assigns (variables.Global x) then imp_of (assumed b) (stays p s texts x) ∷ [] else []) ≡ true
+          first : all_told m sts (if f x && lacks b.assigns (variables.Global x) then imp_of (assumed b) (stays x) ∷ [] else []) ≡ true
           first = on_bool (f x && lacks b.assigns (variables.Global x))
               (λ t. let both = and_parts (f x) (lacks b.assigns (variables.Global x)) t in
-              ap (λ c. all_told m sts (if c then imp_of (assumed b) (stays p s texts x) ∷ [] else [])) t
+              ap (λ c. all_told m sts (if c then imp_of (assumed b) (stays x) ∷ [] else [])) t
               ∙ ap (λ c. c && true) (told_forth x (λ a. subst Same here (h 0 (omega arith) (ap f here ∙ both.0) (ap (λ n. lets_it n b) here ∙ lets_none x both.1 a)))))
-              (λ t. ap (λ c. all_told m sts (if c then imp_of (assumed b) (stays p s texts x) ∷ [] else [])) t)
+              (λ t. ap (λ c. all_told m sts (if c then imp_of (assumed b) (stays x) ∷ [] else [])) t)
 
-      from_back : (x : ℕ) (vs : List Variable) → all_told m sts (stays_from p s texts (assumed b) b.assigns f x vs) ≡ true
+      from_back : (x : ℕ) (vs : List Variable) → all_told m sts (stays_from (assumed b) b.assigns f x vs) ≡ true
           → (i : ℕ) → i < length vs → f (x + i) ≡ true → lets_it (x + i) b ≡ false → Same (x + i)
       from_back x [] h i l = absurd (omega (arith, l))
       from_back x (v ∷ vs) h i l =
-          let both = and_parts (all_told m sts (if f x && lacks b.assigns (variables.Global x) then imp_of (assumed b) (stays p s texts x) ∷ [] else [])) (all_told m sts (stays_from p s texts (assumed b) b.assigns f (suc x) vs))
-          (sym (all_append (λ g. truth m (leaves_of sts) (closed g)) (if f x && lacks b.assigns (variables.Global x) then imp_of (assumed b) (stays p s texts x) ∷ [] else []) (stays_from p s texts (assumed b) b.assigns f (suc x) vs)) ∙ h) in
+          let both = and_parts (all_told m sts (if f x && lacks b.assigns (variables.Global x) then imp_of (assumed b) (stays x) ∷ [] else [])) (all_told m sts (stays_from (assumed b) b.assigns f (suc x) vs))
+          (sym (all_append (λ g. truth m (leaves_of sts) (closed g)) (if f x && lacks b.assigns (variables.Global x) then imp_of (assumed b) (stays x) ∷ [] else []) (stays_from (assumed b) b.assigns f (suc x) vs)) ∙ h) in
           by i l both.0 (from_back (suc x) vs both.1)
         where
           lets_parts : (a l : Bool) → (not a || not l) ≡ false → (a ≡ true) × (l ≡ true)
@@ -108,14 +109,14 @@ module _ (m : sense.World) (p : Facts) (s : Shape) (texts : Texts) (q : labelled
           lets_parts true false h = absurd (false≢true (sym h))
           lets_parts false l h = absurd (false≢true (sym h))
 
-          first : all_told m sts (if f x && lacks b.assigns (variables.Global x) then imp_of (assumed b) (stays p s texts x) ∷ [] else []) ≡ true → f x ≡ true → lets_it x b ≡ false → Same x
+          first : all_told m sts (if f x && lacks b.assigns (variables.Global x) then imp_of (assumed b) (stays x) ∷ [] else []) ≡ true → f x ≡ true → lets_it x b ≡ false → Same x
           first h on none =
               let parts = lets_parts (is_assumed p w b) (lacks b.assigns (variables.Global x)) none in
               let t : (f x && lacks b.assigns (variables.Global x)) ≡ true = λ i. on i && parts.1 i in
-              told_back x (and_parts (truth m (leaves_of sts) (closed (imp_of (assumed b) (stays p s texts x)))) true
-              (sym (ap (λ c. all_told m sts (if c then imp_of (assumed b) (stays p s texts x) ∷ [] else [])) t) ∙ h)).0 parts.0
+              told_back x (and_parts (truth m (leaves_of sts) (closed (imp_of (assumed b) (stays x)))) true
+              (sym (ap (λ c. all_told m sts (if c then imp_of (assumed b) (stays x) ∷ [] else [])) t) ∙ h)).0 parts.0
 
-          by : (i : ℕ) → i < suc (length vs) → all_told m sts (if f x && lacks b.assigns (variables.Global x) then imp_of (assumed b) (stays p s texts x) ∷ [] else []) ≡ true
+          by : (i : ℕ) → i < suc (length vs) → all_told m sts (if f x && lacks b.assigns (variables.Global x) then imp_of (assumed b) (stays x) ∷ [] else []) ≡ true
               → ((i : ℕ) → i < length vs → f (suc x + i) ≡ true → lets_it (suc x + i) b ≡ false → Same (suc x + i)) → f (x + i) ≡ true → lets_it (x + i) b ≡ false → Same (x + i)
           by zero l h rest = subst (λ n. f n ≡ true → lets_it n b ≡ false → Same n) (let q : x ≡ x + 0 = omega arith in q) (first h)
           by (suc i) l h rest = subst (λ n. f n ≡ true → lets_it n b ≡ false → Same n) (let q : suc x + i ≡ x + suc i = omega arith in q) (rest i (omega (arith, l)))
@@ -136,19 +137,19 @@ module _ (m : sense.World) (p : Facts) (s : Shape) (texts : Texts) (q : labelled
   none_either true b h = inr h
   none_either false b h = inl refl
 
-  pub stay_forth : (f : ℕ → Bool) (bs : List Behavior) → AllOf (AssumesFit m p s texts) bs → Stay f bs → all_told m sts (all_stay p s texts (suc (suc e)) f bs) ≡ true
+  pub stay_forth : (f : ℕ → Bool) (bs : List Behavior) → AllOf (AssumesFit m p s texts) bs → Stay f bs → all_told m sts (all_stay (words.assumed_at p s texts (suc (suc e))) f p.globals bs) ≡ true
   stay_forth f [] fits h = refl
   stay_forth f (b ∷ bs) fits h =
-      all_append (λ g. truth m (leaves_of sts) (closed g)) (stays_from p s texts (assumed b) b.assigns f 0 p.globals) (all_stay p s texts (suc (suc e)) f bs)
+      all_append (λ g. truth m (leaves_of sts) (closed g)) (stays_from (assumed b) b.assigns f 0 p.globals) (all_stay (words.assumed_at p s texts (suc (suc e))) f p.globals bs)
       ∙ (λ i. (from_forth b fits.0 f 0 p.globals (λ i l. subst (λ n. f n ≡ true → lets_it n b ≡ false → Same n) (let q : i ≡ 0 + i = omega arith in q)
       (λ on none. h i l on (none_first (lets_it i b) (list_all (lets_it i) bs) none)))) i
       && (stay_forth f bs fits.1 (λ x l on none. h x l on (none_second (lets_it x b) (list_all (lets_it x) bs) none))) i)
 
-  pub stay_back : (f : ℕ → Bool) (bs : List Behavior) → AllOf (AssumesFit m p s texts) bs → all_told m sts (all_stay p s texts (suc (suc e)) f bs) ≡ true → Stay f bs
+  pub stay_back : (f : ℕ → Bool) (bs : List Behavior) → AllOf (AssumesFit m p s texts) bs → all_told m sts (all_stay (words.assumed_at p s texts (suc (suc e))) f p.globals bs) ≡ true → Stay f bs
   stay_back f [] fits h x l on none = absurd (false≢true (sym none))
   stay_back f (b ∷ bs) fits h x l on none =
-      let both = and_parts (all_told m sts (stays_from p s texts (assumed b) b.assigns f 0 p.globals)) (all_told m sts (all_stay p s texts (suc (suc e)) f bs))
-      (sym (all_append (λ g. truth m (leaves_of sts) (closed g)) (stays_from p s texts (assumed b) b.assigns f 0 p.globals) (all_stay p s texts (suc (suc e)) f bs)) ∙ h) in
+      let both = and_parts (all_told m sts (stays_from (assumed b) b.assigns f 0 p.globals)) (all_told m sts (all_stay (words.assumed_at p s texts (suc (suc e))) f p.globals bs))
+      (sym (all_append (λ g. truth m (leaves_of sts) (closed g)) (stays_from (assumed b) b.assigns f 0 p.globals) (all_stay (words.assumed_at p s texts (suc (suc e))) f p.globals bs)) ∙ h) in
       by (none_either (lets_it x b) (list_all (lets_it x) bs) none)
       (subst (λ n. f n ≡ true → lets_it n b ≡ false → Same n) (let q : 0 + x ≡ x = omega arith in q) (from_back b fits.0 f 0 p.globals both.0 x l))
       (stay_back f bs fits.1 both.1 x l on)

@@ -1,27 +1,26 @@
 -- The word of a loop: its set lies inside, its invariants hold where it is entered, its turns change what they may, and one pass keeps its invariants and
 -- lowers its variant (ACSL 2.4.2).
-use Rattle.std.specs.Prelude.{ℕ, suc, Bool, true, false, ◌&&◌, if◌then◌else◌, pos, List, [], ◌∷◌, ◌++◌, map, Option, Some, None}
-use Rattle.typed_prog.specs.declared.operators.Variable.TheVariants as variables
+use Rattle.std.specs.Prelude.{ℕ, suc, Bool, true, false, pos, List, [], ◌∷◌, ◌++◌, map, Option, Some, None}
 use Rattle.wp_base.specs.declared.kinds.Kind.{Kind}
 use Rattle.c_kinds.specs.Models.{low, high}
 use Rattle.acsl_trees.specs.Tree as acsl
 use Rattle.acsl_encode.specs.Readings as annotation
 use Rattle.acsl_encode.specs.Encode as encode
 use Rattle.qed_terms.specs.Meaning as sense
-use Rattle.qed_terms.specs.Tree.{Tree, num, at_most, less, equal, imp_of}
+use Rattle.qed_terms.specs.Tree.{Tree, num, at_most, less}
 use Rattle.c_runs.specs.Program.{Variable, Claim, Measure, Behavior, Contract, Loop, Facts}
 use Rattle.c_runs.specs.Claims as broken
 use Rattle.core_checks.specs.Tree.{Steps}
-use Rattle.plain_states.specs.Slots.{value_slot}
 use Rattle.plain_states.specs.Scopes.{kind_of}
 use Rattle.plain_runs.specs.Fitting.{Shape}
 use Rattle.walk_steps.specs.Forms.{Check}
 use Rattle.walk_steps.specs.Step.{Change, keeps, raised, Step, halt, seq, ask, know, change, remember}
 use Rattle.walk_words.specs.Changes.{ranged}
-use Rattle.program_steps.specs.Leaves.{leaf, form}
+use Rattle.program_steps.specs.Leaves.{form}
 use Rattle.program_steps.specs.Stops.{broken_place, kept_place}
-use Rattle.program_steps.specs.Terms.{Texts, body_reading, entry_reading, claim_tree, assumed_tree}
-use Rattle.program_steps.specs.Words.{Force, of_function, of_loop, Point, lacks, check, ask_all}
+use Rattle.program_steps.specs.Terms.{Texts, body_reading, entry_reading, claim_tree, assumed_tree, or_zero}
+use Rattle.program_steps.specs.Words.{Force, of_function, of_loop, Point, check, ask_all}
+use Rattle.program_steps.specs.Staying.{all_stay}
 use Rattle.loop_words.specs.Sets.{inside_trees, file_changes, local_changes}
 
 -- ---- the head of a turn
@@ -51,26 +50,15 @@ module _ (p : Facts) where
 -- ---- what behaviors let stay
 
 module _ (p : Facts) (s : Shape) (texts : Texts) where
-  -- a variable holds what it did where the state before was remembered
-  abbrev pub stays : (variable : ℕ) → Tree
-  stays x = equal (leaf 0 (value_slot x)) (leaf 1 (value_slot x))
-
-  -- of the variables that change, from this number on, those that the clause doesn't name
-  abbrev pub stays_from : (assumed : Tree) → Option (List acsl.Tree) → (changes : ℕ → Bool) → (number : ℕ) → List Variable → List Tree
-  stays_from a set f x [] = []
-  stays_from a set f x (v ∷ vs) =
-      (if f x && lacks set (variables.Global x) then imp_of a (stays x) ∷ [] else []) ++ stays_from a set f (suc x) vs
-
   -- the function's entry is the state of this level
-  abbrev pub all_stay : (entry : ℕ) → (changes : ℕ → Bool) → List Behavior → List Tree
-  all_stay e f [] = []
-  all_stay e f (b ∷ bs) = stays_from (assumed_tree p s texts (entry_reading p s texts e) b.assumes) b.assigns f 0 p.globals ++ all_stay e f bs
+  abbrev pub assumed_at : (entry : ℕ) → Behavior → Tree
+  assumed_at e b = assumed_tree p s texts (entry_reading p s texts e) b.assumes
 
   -- where the function's clauses are in force inside of the loop
   abbrev pub stay_trees : Contract → Point → Loop → List Tree
   stay_trees c pt l = by l.assigns pt.force where
     by : Option (List acsl.Tree) → Force → List Tree
-    by None of_function = all_stay (suc (suc pt.entry)) (file_changes c pt l) c.behaviors
+    by None of_function = all_stay (assumed_at (suc (suc pt.entry))) (file_changes c pt l) p.globals c.behaviors
     by None (of_loop ws d) = []
     by (Some rs) w = []
 
@@ -87,11 +75,6 @@ module _ (p : Facts) (s : Shape) (texts : Texts) where
   -- there, in the state of the head
   abbrev pub before_reading : Point → acsl.Tree → annotation.Reading
   before_reading pt a = body_reading p s texts 1 (suc (suc (suc pt.entry))) 2 a
-
-  -- an annotation without a term counts as 0
-  abbrev pub or_zero : Option Tree → Tree
-  or_zero (Some t) = t
-  or_zero None = num (pos 0)
 
   abbrev pub measure_tree : (acsl.Tree → annotation.Reading) → acsl.Tree → Tree
   measure_tree r a = or_zero (encode.term_of (r a) a)

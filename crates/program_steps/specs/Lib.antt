@@ -3,6 +3,7 @@ pub mod Stops
 pub mod Temporaries
 pub mod Terms
 pub mod Words
+pub mod Staying
 pub mod Standing
 pub mod Typed
 pub mod Carried

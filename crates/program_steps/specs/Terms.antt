@@ -18,7 +18,7 @@ use Rattle.plain_states.specs.Scopes.{kind_of}
 use Rattle.plain_runs.specs.Fitting.{Shape, sizes}
 use Rattle.value_terms.specs.Readings.{Reading, as_number}
 use Rattle.acsl_encode.specs.Readings as annotation
-use Rattle.acsl_encode.specs.Readings.{Slot, whole, absent, Seen, Called, Common, integer, nothing}
+use Rattle.acsl_encode.specs.Readings.{Slot, whole, any_integer, absent, Seen, Called, Common, integer, nothing}
 use Rattle.acsl_encode.specs.Binders.{Spelled, numbered}
 use Rattle.acsl_encode.specs.Encode.{formula_of, all_of}
 use Rattle.program_steps.specs.Leaves.{leaf}
@@ -27,6 +27,10 @@ use Rattle.program_steps.specs.Leaves.{leaf}
 pub record Texts : Type 0 where
   pub binders : acsl.Tree → Spelled
   pub called : (number : ℕ) → Option Called
+
+-- a variable that holds this; one that is declared without a value may hold any integer until it is set
+abbrev pub held_in : program.Variable → Tree → Slot
+held_in v t = if v.has_value then whole (kind_of v) t else any_integer t
 
 -- in the places of what no expression reads
 abbrev pub unused : Tree
@@ -37,6 +41,11 @@ unused_table = node (h.Var (97 ∷ []) sort.Table) stop
 
 abbrev pub unused_memory : Tree
 unused_memory = node (h.Var (97 ∷ []) sort.Memory) stop
+
+-- a measure without a term counts as 0
+abbrev pub or_zero : Option Tree → Tree
+or_zero (Some t) = t
+or_zero None = num (pos 0)
 
 module _ (p : Facts) (s : Shape) where
   -- ---- expressions, in the present state
@@ -62,7 +71,7 @@ module _ (p : Facts) (s : Shape) where
   global_slot l x None = absent
 
   abbrev pub local_slot : (level x : ℕ) → Option program.Variable → Slot
-  local_slot l x (Some v) = whole (kind_of v) (leaf l (local_value (sizes p s) x))
+  local_slot l x (Some v) = held_in v (leaf l (local_value (sizes p s) x))
   local_slot l x None = absent
 
   abbrev pub slot_of : (of_file of_function : ℕ) → Variable → Slot

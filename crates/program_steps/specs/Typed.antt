@@ -9,10 +9,10 @@ use Rattle.typed_prog.specs.Tree as t
 use Rattle.acsl_trees.specs.Tree as acsl
 use Rattle.acsl_truth.specs.States as labelled
 use Rattle.qed_terms.specs.Meaning as sense
-use Rattle.qed_terms.specs.Meaning.{truth}
+use Rattle.qed_terms.specs.Meaning.{truth, value}
 use Rattle.qed_terms.specs.Tree.{Tree}
 use Rattle.c_runs.specs.Program.{Variable, Loop, Facts}
-use Rattle.c_runs.specs.Claims.{holds}
+use Rattle.c_runs.specs.Claims.{holds, number_at}
 use Rattle.rte_checks.specs.Checks.{Check, checks_of, all_checks}
 use Rattle.core_checks.specs.Tree as core
 use Rattle.core_checks.specs.Tree.{Goal}
@@ -51,13 +51,20 @@ pub record ValueFits (p : Facts) (s : Shape) (f : Temporaries) (e : t.Value) (k 
 
 -- ---- annotations
 
--- It has a formula, which is closed and means it where the variables that were set hold values of their kinds. One that is never set may hold any integer, so
--- that this is more than that the annotation is typed.
+-- It has a formula, which is closed and means it where the variables that were set hold values of their kinds. One that is never set may hold any integer; what
+-- stands for it has no kind.
 pub record ClaimFits (m : sense.World) (p : Facts) (s : Shape) (texts : Texts) (a : acsl.Tree) (here entry loop_entry : ℕ) : Type 0 where
   pub formula : Tree
   pub is : encode.formula_of (body_reading p s texts here entry loop_entry a) a ≡ Some formula
   pub closed : is_closed [] formula ≡ true
   pub means : (w : labelled.World) (sts : List State) → SeenBy p s w sts here entry loop_entry → truth m (leaves_of sts) formula ≡ holds p w a
+
+-- A measure has a closed term, which means it where the variables are so.
+pub record MeasureFits (m : sense.World) (p : Facts) (s : Shape) (texts : Texts) (a : acsl.Tree) (here entry loop_entry : ℕ) : Type 0 where
+  pub term : Tree
+  pub is : encode.term_of (body_reading p s texts here entry loop_entry a) a ≡ Some term
+  pub closed : is_closed [] term ≡ true
+  pub means : (w : labelled.World) (sts : List State) → SeenBy p s w sts here entry loop_entry → value m (leaves_of sts) term ≡ number_at p w a
 
 -- ---- statements
 

@@ -18,7 +18,7 @@ pub fn ask<S: GoalSink>(
     state: &mut State,
     sink: &mut S,
 ) -> Result<(), NoMemory>
-    ensures { (bases : List (List ℕ)) (c : spec.Check) → c.place ≡ view_place place → c.form.written (states (view_state state.old)) ≡ formula_tree claim → OnOk result (Walks bases (step.ask (c ∷ [])) (view_state state.old) (view_state state.new) (S.fits sink.old) (S.fits sink.new) true) }
+    ensures { (first : S) (bases : List (List ℕ)) (c : spec.Check) → c.place ≡ view_place place → c.form.written (states (view_state state.old)) ≡ formula_tree claim → OnOk result (Walks bases (step.ask (c ∷ [])) (view_state state.old) (view_state state.new) (S.fits first sink.old) (S.fits first sink.new) true) }
 {
     sink.take(place, state.world.known.as_slice(), &claim)?;
     state.world.known.push(claim)?;

@@ -18,12 +18,12 @@ pub struct Place {
 
 /// Where goals go.
 pub trait GoalSink {
-    /// These goals, in this order, fit what the sink has.
-    ghost fits: { Self → List spec.Goal → Type 0 };
+    /// These goals, in this order, fit what the sink has now; it was the first one before they came.
+    ghost fits: { Self → Self → List spec.Goal → Type 0 };
 
     /// A goal: what its check asks for, what is known there, and what is claimed. Its number is how many came before.
     fn take(&mut self, place: Place, known: &[Formula], claim: &Formula) -> Result<(), NoMemory>
-        ensures { (gs : List spec.Goal) → fits self.old gs → OnOk result (fits self.new (gs ++ record { number = length gs; place = view_place place; known = map formula_tree known.now; claim = formula_tree claim.now } ∷ [])) };
+        ensures { (first : Self) (gs : List spec.Goal) → fits first self.old gs → OnOk result (fits first self.new (gs ++ record { number = length gs; place = view_place place; known = map formula_tree known.now; claim = formula_tree claim.now } ∷ [])) };
 }
 
 /// A goal that is kept.
@@ -42,7 +42,7 @@ pub struct Collector {
 }
 
 impl GoalSink for Collector {
-    ghost fits = { λ c gs. goals_from 0 c.goals.items ≡ gs };
+    ghost fits = { λ first now gs. goals_from 0 now.goals.items ≡ gs };
 
     fn take(&mut self, place: Place, known: &[Formula], claim: &Formula) -> Result<(), NoMemory> {
         let known = List::from_vec(copy_known(self.alloc, known)?);

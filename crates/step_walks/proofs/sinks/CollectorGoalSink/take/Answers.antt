@@ -6,7 +6,7 @@ use Rattle.step_walks.proofs.Pushed.{one_taken}
 use Rattle.step_walks.proofs.sinks.CollectorGoalSink.take.Goals as goal
 
 pub returns : goal.returns
-returns c gs h =
+returns c first gs h =
     let old = c.args.self.now.goals.items in
     let kept : Claimed = record { place = c.args.place; known = c.from_vec-known.result; claim = c.in_ok-claim.claim } in
     let items : c.push.new.self.items ≡ old ++ kept ∷ [] = search (rules, c.in_ok-push.ensures.items) in

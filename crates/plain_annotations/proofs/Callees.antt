@@ -1,12 +1,12 @@
 -- Contracts of functions that are called have closed formulas and terms, which mean them.
-use Rattle.std.proofs.Common.{◌≡◌, ℕ, Bool, true, false, not, if◌then◌else◌, List, [], refl, sym, ap, ◌∙◌, subst}
+use Rattle.std.proofs.Common.{◌≡◌, ℕ, Bool, true, List, [], refl, sym, ap, ◌∙◌, subst}
 use Rattle.std.specs.Prelude.{Option, Some, None, slice_get}
 use Rattle.std.specs.Option.{is_some}
-use Rattle.std.proofs.lemmas.Bool.{and_parts, false≢true}
+use Rattle.std.proofs.lemmas.Bool.{false≢true}
 use Rattle.typed_prog.specs.declared.operators.Variable.{Variable}
 use Rattle.typed_prog.specs.declared.operators.Variable.TheVariants as variables
 use Rattle.acsl_trees.specs.Tree as acsl
-use Rattle.acsl_truth.specs.States.{is_negative, number}
+use Rattle.acsl_truth.specs.States.{is_negative}
 use Rattle.acsl_truth.specs.States as labelled
 use Rattle.qed_terms.specs.Tree.{Tree}
 use Rattle.qed_terms.specs.Meaning as sense
@@ -24,12 +24,9 @@ use Rattle.walk_steps.specs.State.{at_or}
 use Rattle.program_steps.specs.Leaves.{leaves_of}
 use Rattle.program_steps.specs.Terms.{Texts, global_slot, common_of}
 use Rattle.program_steps.specs.Placed.{InSetting}
-use Rattle.plain_annotations.specs.Plain.{is_plain}
-use Rattle.plain_annotations.specs.Casts.{no_kinds, keeps_casts}
-use Rattle.plain_annotations.specs.Loose.{loose_slot, loose_seen, loosened, SlotAlike}
 use Rattle.plain_annotations.specs.Views.{SlotIsInteger, SlotIsClosed, SeenServes}
-use Rattle.plain_annotations.specs.Places.{place_over, is_known, is_loose, unset_in, never_set, kind_unset, TextsFit}
-use Rattle.plain_annotations.specs.Laws.{IsOver}
+use Rattle.plain_annotations.specs.Places.{place_over, is_known, TextsFit}
+use Rattle.plain_annotations.specs.Laws.{with_result, IsOver}
 use Rattle.plain_annotations.specs.Callees.{IsOpen, IsView, Sees, reading_over, IsResult, SeesCall, CalleesFit}
 use Rattle.plain_annotations.proofs.Naming.{binder_fits, binder_marked, all_lack}
 use Rattle.plain_annotations.proofs.Slots.{may_call, global_integer, global_closed, global_fits, global_unmarked, global_stands}
@@ -77,35 +74,13 @@ module _ (m : sense.World) (p : Facts) (s : Shape) (own : List program.Variable)
       pointers = subst (Holds _) (sym view.pointers) tt;
     }
 
-    own_alike : (x : ℕ) (v : program.Variable) → SlotAlike (kind_unset (Some v)) (whole (kind_of v) (args x)) (loose_slot (never_set (Some v)) (whole (kind_of v) (args x)))
-    own_alike x v = by v.has_value
-      where
-        by : (b : Bool) → SlotAlike (if not b then Some (kind_of v) else None) (whole (kind_of v) (args x)) (loose_slot (not b) (whole (kind_of v) (args x)))
-        by true = refl
-        by false = (args x, refl, refl)
-
-    seen_alike : (x : Variable) → SlotAlike (unset_in own x) (seen.variable x) (loose_slot (is_loose own x) (seen.variable x))
-    seen_alike =
-        each (λ x o. SlotAlike (unset_in own x) o (loose_slot (is_loose own x) o)) (λ x. refl)
-        (λ x v e. subst (λ o. SlotAlike (kind_unset o) (whole (kind_of v) (args x)) (loose_slot (never_set o) (whole (kind_of v) (args x)))) (sym e) (own_alike x v))
-        (λ x e. subst (λ o. SlotAlike (kind_unset o) absent (loose_slot (never_set o) absent)) (sym e) refl)
-
     module _ (a : acsl.Tree) (sts : List State) (q : labelled.State) (sees : Sees p s own q (at_or [] sts l) (λ x. value m (leaves_of sts) (args x))) where
-      own_stands : (x : ℕ) (v : program.Variable) → slice_get own x ≡ Some v
-          → SlotStands m (common_of p s texts a) (leaves_of sts) (variables.Local x) (loose_slot (never_set (Some v)) (whole (kind_of v) (args x))) q
-      own_stands x v e = by v.has_value
-        where
-          by : (b : Bool) → SlotStands m (common_of p s texts a) (leaves_of sts) (variables.Local x) (loose_slot (not b) (whole (kind_of v) (args x))) q
-          by true = (sees.homes x v e, (sees.locals x v e, sees.fits x v e))
-          by false = (sees.homes x v e, (sees.locals x v e, tt))
-
-      state_stands : SeenStands m (common_of p s texts a) (leaves_of sts) (loose_seen (is_loose own) seen) q
+      state_stands : SeenStands m (common_of p s texts a) (leaves_of sts) seen q
       state_stands = record {
-        variables = each (λ x o. SlotStands m (common_of p s texts a) (leaves_of sts) x (loose_slot (is_loose own x) o) q)
+        variables = each (λ x o. SlotStands m (common_of p s texts a) (leaves_of sts) x o q)
             (λ x. global_stands p s m (common_of p s texts a) refl (λ y. refl) sts q l x (slice_get p.globals x) refl (sees.file_homes x) (sees.globals x) (sees.file_fits x))
-            (λ x v e. subst (λ o. SlotStands m (common_of p s texts a) (leaves_of sts) (variables.Local x) (loose_slot (never_set o) (whole (kind_of v) (args x))) q) (sym e)
-            (own_stands x v e))
-            (λ x e. subst (λ o. SlotStands m (common_of p s texts a) (leaves_of sts) (variables.Local x) (loose_slot (never_set o) absent) q) (sym e) tt);
+            (λ x v e. (sees.homes x v e, (sees.locals x v e, sees.fits x v e)))
+            (λ x e. tt);
         table = subst (Holds _) (sym view.table) tt;
         numbers = λ k. subst (Holds _) (sym (view.numbers k)) tt;
         pointers = subst (Holds _) (sym view.pointers) tt;
@@ -115,7 +90,7 @@ module _ (m : sense.World) (p : Facts) (s : Shape) (own : List program.Variable)
 
   module _ (h e : ℕ) (seen before : Seen) (here : IsView p s own h args seen) (entry : IsView p s own e args before) (named : Bool) (given result : Terms)
       (fine : IsResult p s own texts named given result) (a : acsl.Tree) where
-    over : IsOver (texts.binders a) (place_over p texts own named) (is_loose own) (unset_in own) given (reading_over p s own texts seen before result a)
+    over : IsOver (texts.binders a) (place_over p texts own named) given (reading_over p s own texts seen before result a)
     over = record {
       serves = record { here = serves h seen here named; pre = serves e before entry named; post = serves h seen here named; loop_entry = serves e before entry named; result = fine.integer };
       closed = record {
@@ -144,16 +119,9 @@ module _ (m : sense.World) (p : Facts) (s : Shape) (own : List program.Variable)
         spelled = all_lack (texts.binders a) (fit.binders a);
         binders = λ n. refl;
       };
-      alike = record {
-        here = seen_alike h seen here;
-        pre = seen_alike e before entry;
-        post = seen_alike h seen here;
-        loop_entry = seen_alike e before entry;
-        result = fine.same;
-      };
+      result = fine.same;
       given_fits = fine.given_fits;
       given_unmarked = fine.given_unmarked;
-      globals = λ n. refl;
     }
 
     no_address : (x : Variable) → is_negative ((common_of p s texts a).hidden x) ≡ true
@@ -161,7 +129,7 @@ module _ (m : sense.World) (p : Facts) (s : Shape) (own : List program.Variable)
     no_address (variables.Local x) = refl
 
     stands : (w : labelled.World) (sts : List State) → SeesCall m p s own texts h e args given a w sts
-        → Stands m (loosened (is_loose own) given (reading_over p s own texts seen before result a)) (leaves_of sts) w
+        → Stands m (with_result given (reading_over p s own texts seen before result a)) (leaves_of sts) w
     stands w sts sees = record {
       here = state_stands h seen here a sts w.here sees.here_is;
       pre = state_stands e before entry a sts w.pre sees.pre_is;
@@ -177,9 +145,8 @@ module _ (m : sense.World) (p : Facts) (s : Shape) (own : List program.Variable)
 
 pub callees_fit : CalleesFit
 callees_fit m p s own texts setting fit h e args opens seen before here entry named given result fine a passes =
-    let b = and_parts (is_plain (place_over p texts own named) 0 a) (keeps_casts p.model (unset_in own) no_kinds 0 a) passes in
-    let f = annotations_fit m (texts.binders a) (place_over p texts own named) (is_loose own) (unset_in own) given (reading_over p s own texts seen before result a)
-    p.definitions a (over m p s own texts setting fit args opens h e seen before here entry named given result fine a) (fit.calls a) b.0 b.1 in (
+    let f = annotations_fit m (texts.binders a) (place_over p texts own named) given (reading_over p s own texts seen before result a) p.definitions a
+    (over m p s own texts setting fit args opens h e seen before here entry named given result fine a) (fit.calls a) passes in (
       record {
         formula = f.as_formula.formula;
         is = f.as_formula.is;

@@ -2,12 +2,12 @@
 use Rattle.std.proofs.Common.{◌≡◌, ℕ, Bool, true, false, List, [], refl, sym, ap, ◌∙◌}
 use Rattle.std.specs.Prelude.{Option, Some, None}
 use Rattle.std.specs.Option.{is_some}
-use Rattle.std.proofs.lemmas.Bool.{and_parts, false≢true}
+use Rattle.std.proofs.lemmas.Bool.{false≢true}
 use Rattle.wp_base.specs.declared.kinds.CellKind.{CellKind}
 use Rattle.typed_prog.specs.declared.operators.Variable.{Variable}
 use Rattle.typed_prog.specs.declared.operators.Variable.TheVariants as variables
 use Rattle.acsl_trees.specs.Tree as acsl
-use Rattle.acsl_truth.specs.States.{is_negative, number, state_at}
+use Rattle.acsl_truth.specs.States.{is_negative, number}
 use Rattle.acsl_truth.specs.States as labelled
 use Rattle.qed_terms.specs.Meaning as sense
 use Rattle.c_runs.specs.Program.{Facts}
@@ -22,19 +22,16 @@ use Rattle.program_steps.specs.Leaves.{leaf, leaves_of}
 use Rattle.program_steps.specs.Terms.{Texts, seen_at, common_of, body_reading, return_reading}
 use Rattle.program_steps.specs.Standing.{SeenAs, SeenBy}
 use Rattle.program_steps.specs.Placed.{InSetting}
-use Rattle.program_steps.specs.Typed.{ClaimFits}
+use Rattle.program_steps.specs.Typed.{ClaimFits, MeasureFits}
 use Rattle.program_steps.specs.Functions.{SeenReturn, ReturnFits}
 use Rattle.program_steps.proofs.Listing.{leaf_value}
 use Rattle.program_steps.proofs.Starting.{leaf_closed}
-use Rattle.plain_annotations.specs.Plain.{is_plain}
-use Rattle.plain_annotations.specs.Casts.{no_kinds, keeps_casts}
-use Rattle.plain_annotations.specs.Loose.{loose_seen, loosened}
 use Rattle.plain_annotations.specs.Views.{SeenServes}
-use Rattle.plain_annotations.specs.Places.{place_over, is_loose, unset_in, TextsFit}
-use Rattle.plain_annotations.specs.Laws.{IsOver, Fits}
-use Rattle.plain_annotations.specs.Claims.{MeasureFits, is_body_claim, is_promise, ClaimsFit, PromisesFit}
+use Rattle.plain_annotations.specs.Places.{place_over, TextsFit}
+use Rattle.plain_annotations.specs.Laws.{with_result, IsOver, Fits}
+use Rattle.plain_annotations.specs.Claims.{is_body_claim, is_promise, ClaimsFit, PromisesFit}
 use Rattle.plain_annotations.proofs.Naming.{leaf_fits, leaf_unmarked, binder_fits, binder_marked, all_lack}
-use Rattle.plain_annotations.proofs.Slots.{may_call, integers, closed_slots, seen_fits, seen_unmarked, seen_alike, slots_stand}
+use Rattle.plain_annotations.proofs.Slots.{may_call, integers, closed_slots, seen_fits, seen_unmarked, slots_stand}
 use Rattle.plain_annotations.proofs.Fits.{annotations_fit}
 
 module _ (m : sense.World) (p : Facts) (s : Shape) (texts : Texts) (setting : InSetting m p s) (fit : TextsFit m p s texts) where
@@ -44,7 +41,7 @@ module _ (m : sense.World) (p : Facts) (s : Shape) (texts : Texts) (setting : In
   serves result g l = record { variables = integers p s g l; calls = λ f n e. may_call p s g (seen_at p s g l) (λ x. refl) (texts.called f) n e }
 
   body_over : (a : acsl.Tree) (here entry loop_entry : ℕ)
-      → IsOver (texts.binders a) (place_over p texts s.variables false) (is_loose s.variables) (unset_in s.variables) nothing (body_reading p s texts here entry loop_entry a)
+      → IsOver (texts.binders a) (place_over p texts s.variables false) nothing (body_reading p s texts here entry loop_entry a)
   body_over a h e g = record {
     serves = record { here = serves false h h; pre = serves false e e; post = serves false h h; loop_entry = serves false g g; result = λ t. absurd (false≢true t) };
     closed = record {
@@ -73,22 +70,15 @@ module _ (m : sense.World) (p : Facts) (s : Shape) (texts : Texts) (setting : In
       spelled = all_lack (texts.binders a) (fit.binders a);
       binders = λ n. refl;
     };
-    alike = record {
-      here = seen_alike p s h h;
-      pre = seen_alike p s e e;
-      post = seen_alike p s h h;
-      loop_entry = seen_alike p s g g;
-      result = λ t. refl;
-    };
+    result = λ t. refl;
     given_fits = tt;
     given_unmarked = tt;
-    globals = λ n. refl;
   }
 
   -- ---- they stand for states
 
   state_stands : (a : acsl.Tree) (sts : List State) (q : labelled.State) (g l : ℕ) → SeenAs p s q (at_or [] sts g) (at_or [] sts l)
-      → SeenStands m (common_of p s texts a) (leaves_of sts) (loose_seen (is_loose s.variables) (seen_at p s g l)) q
+      → SeenStands m (common_of p s texts a) (leaves_of sts) (seen_at p s g l) q
   state_stands a sts q g l seen = record {
     variables = slots_stand p s m (common_of p s texts a) refl (λ x. refl) sts q g l seen;
     table = tt;
@@ -101,7 +91,7 @@ module _ (m : sense.World) (p : Facts) (s : Shape) (texts : Texts) (setting : In
   hides a (variables.Local x) = refl
 
   body_stands : (a : acsl.Tree) (w : labelled.World) (sts : List State) (here entry loop_entry : ℕ) → SeenBy p s w sts here entry loop_entry
-      → Stands m (loosened (is_loose s.variables) nothing (body_reading p s texts here entry loop_entry a)) (leaves_of sts) w
+      → Stands m (with_result nothing (body_reading p s texts here entry loop_entry a)) (leaves_of sts) w
   body_stands a w sts h e g seen = record {
     here = state_stands a sts w.here h h seen.here_is;
     pre = state_stands a sts w.pre e e seen.pre_is;
@@ -118,11 +108,9 @@ module _ (m : sense.World) (p : Facts) (s : Shape) (texts : Texts) (setting : In
   -- ---- claims and measures in the body
 
   body_fits : (a : acsl.Tree) → is_body_claim p texts s a ≡ true → (here entry loop_entry : ℕ)
-      → Fits m (is_loose s.variables) nothing (body_reading p s texts here entry loop_entry a) p.definitions a
+      → Fits m nothing (body_reading p s texts here entry loop_entry a) p.definitions a
   body_fits a e h n g =
-      let b = and_parts (is_plain (place_over p texts s.variables false) 0 a) (keeps_casts p.model (unset_in s.variables) no_kinds 0 a) e in
-      annotations_fit m (texts.binders a) (place_over p texts s.variables false) (is_loose s.variables) (unset_in s.variables) nothing
-      (body_reading p s texts h n g a) p.definitions a (body_over a h n g) (fit.calls a) b.0 b.1
+      annotations_fit m (texts.binders a) (place_over p texts s.variables false) nothing (body_reading p s texts h n g a) p.definitions a (body_over a h n g) (fit.calls a) e
 
   claim_fits : (a : acsl.Tree) → is_body_claim p texts s a ≡ true → (here entry loop_entry : ℕ) → ClaimFits m p s texts a here entry loop_entry
   claim_fits a e h n g =
@@ -153,7 +141,7 @@ module _ (m : sense.World) (p : Facts) (s : Shape) (texts : Texts) (setting : In
   result_is None e = absurd (false≢true e)
 
   return_over : (a : acsl.Tree)
-      → IsOver (texts.binders a) (place_over p texts s.variables (is_some s.result)) (is_loose s.variables) (unset_in s.variables) (result_for s.result)
+      → IsOver (texts.binders a) (place_over p texts s.variables (is_some s.result)) (result_for s.result)
       (return_reading p s texts 1 a)
   return_over a = record {
     serves = record {
@@ -189,16 +177,9 @@ module _ (m : sense.World) (p : Facts) (s : Shape) (texts : Texts) (setting : In
       spelled = all_lack (texts.binders a) (fit.binders a);
       binders = λ n. refl;
     };
-    alike = record {
-      here = seen_alike p s 0 1;
-      pre = seen_alike p s 1 1;
-      post = seen_alike p s 0 1;
-      loop_entry = seen_alike p s 1 1;
-      result = result_is s.result;
-    };
+    result = result_is s.result;
     given_fits = result_fits s.result;
     given_unmarked = result_unmarked s.result;
-    globals = λ n. refl;
   }
 
   result_stands : (a : acsl.Tree) (w : labelled.World) (sts : List State) → SeenReturn p s w sts
@@ -211,7 +192,7 @@ module _ (m : sense.World) (p : Facts) (s : Shape) (texts : Texts) (setting : In
       by None h = tt
 
   return_stands : (a : acsl.Tree) (w : labelled.World) (sts : List State) → SeenReturn p s w sts
-      → Stands m (loosened (is_loose s.variables) (result_for s.result) (return_reading p s texts 1 a)) (leaves_of sts) w
+      → Stands m (with_result (result_for s.result) (return_reading p s texts 1 a)) (leaves_of sts) w
   return_stands a w sts seen = record {
     here = state_stands a sts w.here 0 1 seen.here_is;
     pre = state_stands a sts w.pre 1 1 seen.pre_is;
@@ -227,9 +208,8 @@ module _ (m : sense.World) (p : Facts) (s : Shape) (texts : Texts) (setting : In
 
   return_fits : (a : acsl.Tree) → is_promise p texts s a ≡ true → ReturnFits m p s texts a
   return_fits a e =
-      let b = and_parts (is_plain (place_over p texts s.variables (is_some s.result)) 0 a) (keeps_casts p.model (unset_in s.variables) no_kinds 0 a) e in
-      let f = (annotations_fit m (texts.binders a) (place_over p texts s.variables (is_some s.result)) (is_loose s.variables) (unset_in s.variables)
-      (result_for s.result) (return_reading p s texts 1 a) p.definitions a (return_over a) (fit.calls a) b.0 b.1).as_formula in
+      let f = (annotations_fit m (texts.binders a) (place_over p texts s.variables (is_some s.result)) (result_for s.result) (return_reading p s texts 1 a) p.definitions a
+      (return_over a) (fit.calls a) e).as_formula in
       record { formula = f.formula; is = f.is; closed = f.closed; means = λ w sts seen. f.means (leaves_of sts) w (return_stands a w sts seen) }
 
 pub claims_fit : ClaimsFit

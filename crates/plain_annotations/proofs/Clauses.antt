@@ -15,11 +15,11 @@ use Rattle.plain_states.proofs.Scoping.{found_below}
 use Rattle.plain_runs.specs.Fitting.{Shape}
 use Rattle.program_steps.specs.Terms.{Texts}
 use Rattle.program_steps.specs.Placed.{InSetting}
-use Rattle.program_steps.specs.Typed.{ClaimFits}
+use Rattle.program_steps.specs.Typed.{ClaimFits, MeasureFits}
 use Rattle.program_steps.specs.Functions.{AllOf, IsKnown, RegionFits, SetFits, BehaviorFits}
 use Rattle.program_steps.specs.Starting.{BehaviorStarts}
 use Rattle.plain_annotations.specs.Places.{are_none, is_known, TextsFit}
-use Rattle.plain_annotations.specs.Claims.{is_body_claim, is_promise, MeasureFits}
+use Rattle.plain_annotations.specs.Claims.{is_body_claim, is_promise}
 use Rattle.plain_annotations.specs.Clauses.{is_region, is_set, is_measure, are_claims, is_behavior, is_contract, is_loop, ContractFits, LoopAnnotationsFit, ContractsFit, LoopsFit}
 use Rattle.plain_annotations.proofs.Claims.{claims_fit, promises_fit}
 
@@ -125,7 +125,7 @@ region_fits p s (node (h.Region (content.Integer k)) (more (node (h.Variable x) 
 region_fits p s (node (h.Region (content.Integer k)) (more (node (h.Variable x) stop) (more t ts))) e = absurd (false≢true e)
 region_fits p s (node (h.Region (content.Integer k)) (more (node (h.Variable x) stop) stop)) e = record { variable = x; known = known p s x e; kind = k; is = refl }
 
-set_fits : (p : Facts) (s : Shape) (o : Option (List Tree)) → is_set p s.variables o ≡ true → SetFits p s o
+pub set_fits : (p : Facts) (s : Shape) (o : Option (List Tree)) → is_set p s.variables o ≡ true → SetFits p s o
 set_fits p s None e = tt
 set_fits p s (Some ts) e = all_of (is_region p s.variables) (RegionFits p s) ts (region_fits p s) e
 

@@ -1,9 +1,8 @@
-pub mod Same
 pub mod Closing
 pub mod Bound
 pub mod Integers
 pub mod Terms
-pub mod Alike
+pub mod Results
 pub mod Closed
 pub mod Naming
 pub mod Fits

@@ -1,5 +1,5 @@
 -- The slots of a function as its annotations read them: what stands for them, and that it stands for the states.
-use Rattle.std.proofs.Common.{◌≡◌, ℕ, pos, negsuc, Bool, true, false, not, ◌&&◌, ◌||◌, if◌then◌else◌, List, [], ◌∷◌, length, refl, sym, ap, ◌∙◌, subst}
+use Rattle.std.proofs.Common.{◌≡◌, ℕ, pos, negsuc, Bool, true, false, ◌&&◌, ◌||◌, if◌then◌else◌, List, [], ◌∷◌, length, refl, sym, ap, ◌∙◌, subst}
 use Rattle.std.specs.Prelude.{Option, Some, None, slice_get}
 use Rattle.std.specs.Option.{is_some}
 use Rattle.std.specs.List.{list_all}
@@ -12,6 +12,7 @@ use Rattle.typed_prog.specs.declared.operators.Variable.TheVariants as variables
 use Rattle.acsl_truth.specs.States.{number}
 use Rattle.acsl_truth.specs.States as labelled
 use Rattle.qed_terms.specs.Operators.{is_equal}
+use Rattle.qed_terms.specs.Tree.{Tree as Term}
 use Rattle.qed_terms.specs.Meaning as sense
 use Rattle.qed_terms.specs.Meaning.{Values}
 use Rattle.c_runs.specs.Program as program
@@ -19,22 +20,31 @@ use Rattle.c_runs.specs.Program.{Facts}
 use Rattle.plain_states.specs.Slots.{State, at, value_slot, local_value, local_flag}
 use Rattle.plain_states.specs.Scopes.{kind_of}
 use Rattle.plain_runs.specs.Fitting.{Shape, sizes}
-use Rattle.acsl_encode.specs.Readings.{Named, one, two, Global, integer_global, pointer_global, Called, whole, Seen, Common}
+use Rattle.acsl_encode.specs.Readings.{Named, one, two, Global, integer_global, pointer_global, Called, Slot, whole, any_integer, Seen, Common}
 use Rattle.acsl_encode.specs.Encode.{all_put, global_of, integer_of}
 use Rattle.acsl_encode.specs.Meaning.{number_in, SlotStands}
 use Rattle.acsl_encode.specs.WellFormed.{SlotFits, SeenFits}
 use Rattle.acsl_encode.specs.Laws.{SlotUnmarked, SeenUnmarked}
 use Rattle.walk_steps.specs.State.{at_or}
 use Rattle.program_steps.specs.Leaves.{leaf, leaves_of}
-use Rattle.program_steps.specs.Terms.{global_slot, local_slot, slot_of, seen_at, hidden_block}
+use Rattle.program_steps.specs.Terms.{held_in, global_slot, local_slot, slot_of, seen_at, hidden_block}
 use Rattle.program_steps.specs.Standing.{SeenAs}
 use Rattle.program_steps.proofs.Listing.{leaf_value}
 use Rattle.program_steps.proofs.Starting.{leaf_closed}
-use Rattle.plain_annotations.specs.Loose.{loose_slot, SlotAlike}
 use Rattle.plain_annotations.specs.Views.{SlotIsInteger, SlotIsClosed, AreIntegers, IsThere, TakesIntegers, MayCall}
-use Rattle.plain_annotations.specs.Places.{is_one, are_none, holds_kind, is_given, takes_integers, params_of, is_known, never_set, kind_unset, is_loose, unset_in}
+use Rattle.plain_annotations.specs.Places.{is_one, are_none, holds_kind, is_given, takes_integers, params_of, is_known}
 use Rattle.plain_annotations.proofs.Naming.{leaf_fits, leaf_unmarked}
 use Rattle.plain_annotations.proofs.Integers.{put_there}
+
+-- ---- single variables
+
+-- what is so of both kinds of slots is so of a variable's
+held_so : (f : Slot → Type 0) (v : program.Variable) (t : Term) → f (whole (kind_of v) t) → f (any_integer t) → f (held_in v t)
+held_so f v t a b = by v.has_value
+  where
+    by : (c : Bool) → f (if c then whole (kind_of v) t else any_integer t)
+    by true = a
+    by false = b
 
 -- ---- logic functions
 
@@ -91,7 +101,7 @@ module _ (p : Facts) (s : Shape) where
   global_integer l x None e = absurd (false≢true e)
 
   local_integer : (l x : ℕ) (o : Option program.Variable) → is_some o ≡ true → SlotIsInteger (local_slot p s l x o)
-  local_integer l x (Some v) e = tt
+  local_integer l x (Some v) e = held_so SlotIsInteger v (leaf l (local_value (sizes p s) x)) tt tt
   local_integer l x None e = absurd (false≢true e)
 
   pub global_closed : (l x : ℕ) (o : Option program.Variable) → SlotIsClosed (global_slot p s l x o)
@@ -99,7 +109,7 @@ module _ (p : Facts) (s : Shape) where
   global_closed l x None = tt
 
   local_closed : (l x : ℕ) (o : Option program.Variable) → SlotIsClosed (local_slot p s l x o)
-  local_closed l x (Some v) = leaf_closed l (local_value (sizes p s) x)
+  local_closed l x (Some v) = let c = leaf_closed l (local_value (sizes p s) x) in held_so SlotIsClosed v (leaf l (local_value (sizes p s) x)) c c
   local_closed l x None = tt
 
   pub global_fits : (l x : ℕ) (o : Option program.Variable) → SlotFits (global_slot p s l x o)
@@ -107,7 +117,7 @@ module _ (p : Facts) (s : Shape) where
   global_fits l x None = tt
 
   local_fits : (l x : ℕ) (o : Option program.Variable) → SlotFits (local_slot p s l x o)
-  local_fits l x (Some v) = leaf_fits l (local_value (sizes p s) x)
+  local_fits l x (Some v) = let f = leaf_fits l (local_value (sizes p s) x) in held_so SlotFits v (leaf l (local_value (sizes p s) x)) f f
   local_fits l x None = tt
 
   pub global_unmarked : (l x : ℕ) (o : Option program.Variable) → SlotUnmarked (global_slot p s l x o)
@@ -115,17 +125,8 @@ module _ (p : Facts) (s : Shape) where
   global_unmarked l x None = tt
 
   local_unmarked : (l x : ℕ) (o : Option program.Variable) → SlotUnmarked (local_slot p s l x o)
-  local_unmarked l x (Some v) = leaf_unmarked l (local_value (sizes p s) x)
+  local_unmarked l x (Some v) = let u = leaf_unmarked l (local_value (sizes p s) x) in held_so SlotUnmarked v (leaf l (local_value (sizes p s) x)) u u
   local_unmarked l x None = tt
-
-  local_alike : (l x : ℕ) (o : Option program.Variable) → SlotAlike (kind_unset o) (local_slot p s l x o) (loose_slot (never_set o) (local_slot p s l x o))
-  local_alike l x (Some v) = by v.has_value
-    where
-      by : (b : Bool) → SlotAlike (if not b then Some (kind_of v) else None) (whole (kind_of v) (leaf l (local_value (sizes p s) x)))
-          (loose_slot (not b) (whole (kind_of v) (leaf l (local_value (sizes p s) x))))
-      by true = refl
-      by false = (leaf l (local_value (sizes p s) x), refl, refl)
-  local_alike l x None = refl
 
   -- ---- all slots of a state
 
@@ -150,10 +151,6 @@ module _ (p : Facts) (s : Shape) where
 
   pub seen_unmarked : (g l : ℕ) → SeenUnmarked (seen_at p s g l)
   seen_unmarked g l = record { variables = unmarked_slots g l; table = tt; numbers = λ k. tt; pointers = tt }
-
-  pub seen_alike : (g l : ℕ) (x : Variable) → SlotAlike (unset_in s.variables x) (slot_of p s g l x) (loose_slot (is_loose s.variables x) (slot_of p s g l x))
-  seen_alike g l (variables.Global x) = refl
-  seen_alike g l (variables.Local x) = local_alike l x (slice_get s.variables x)
 
   -- ---- what stands for a state
 
@@ -180,7 +177,7 @@ module _ (p : Facts) (s : Shape) where
     global_stands q g x None e home cells fits = tt
 
     local_stands : (q : labelled.State) (file : State) (l x : ℕ) (o : Option program.Variable) → slice_get s.variables x ≡ o → SeenAs p s q file (at_or [] sts l)
-        → SlotStands m r env (variables.Local x) (loose_slot (never_set o) (local_slot p s l x o)) q
+        → SlotStands m r env (variables.Local x) (local_slot p s l x o) q
     local_stands q file l x (Some v) e seen = by v.has_value refl
       where
         home : q.home (variables.Local x) ≡ r.hidden (variables.Local x)
@@ -189,7 +186,7 @@ module _ (p : Facts) (s : Shape) where
         held : q.cells (r.hidden (variables.Local x)) (pos 0) ≡ number (number_in m env (leaf l (local_value (sizes p s) x)))
         held = ap (λ b. q.cells b (pos 0)) (hides (variables.Local x)) ∙ seen.locals x v e ∙ ap number (sym (leaf_is l (local_value (sizes p s) x)))
 
-        by : (b : Bool) → v.has_value ≡ b → SlotStands m r env (variables.Local x) (loose_slot (not b) (local_slot p s l x (Some v))) q
+        by : (b : Bool) → v.has_value ≡ b → SlotStands m r env (variables.Local x) (if b then whole (kind_of v) (leaf l (local_value (sizes p s) x)) else any_integer (leaf l (local_value (sizes p s) x))) q
         by true t = (
           home,
           (
@@ -203,7 +200,7 @@ module _ (p : Facts) (s : Shape) where
     local_stands q file l x None e seen = tt
 
     pub slots_stand : (q : labelled.State) (g l : ℕ) → SeenAs p s q (at_or [] sts g) (at_or [] sts l) → (x : Variable)
-        → SlotStands m r env x (loose_slot (is_loose s.variables x) (slot_of p s g l x)) q
+        → SlotStands m r env x (slot_of p s g l x) q
     slots_stand q g l seen (variables.Global x) =
         global_stands q g x (slice_get p.globals x) refl (seen.file_homes x) (seen.globals x) (seen.file_fits x)
     slots_stand q g l seen (variables.Local x) = local_stands q (at_or [] sts g) l x (slice_get s.variables x) refl seen

@@ -1,32 +1,23 @@
 -- Annotations over plain integers are what the words of functions ask for (ACSL 2.3, 2.4, 2.5): tests of them, and the laws.
-use Rattle.std.specs.Prelude.{◌≡◌, ℕ, Bool, true, false, ◌&&◌, List, [], Some}
+use Rattle.std.specs.Prelude.{◌≡◌, ℕ, Bool, true, false, List}
 use Rattle.std.specs.Option.{is_some}
 use Rattle.acsl_trees.specs.Tree as acsl
-use Rattle.acsl_truth.specs.States as labelled
 use Rattle.qed_terms.specs.Meaning as sense
-use Rattle.qed_terms.specs.Meaning.{value}
-use Rattle.qed_terms.specs.Tree.{Tree}
 use Rattle.c_runs.specs.Program as program
 use Rattle.c_runs.specs.Program.{Facts}
-use Rattle.c_runs.specs.Claims.{number_at}
-use Rattle.plain_states.specs.Slots.{State}
 use Rattle.plain_runs.specs.Fitting.{Shape}
-use Rattle.acsl_encode.specs.Encode.{term_of}
-use Rattle.program_steps.specs.Leaves.{is_closed, leaves_of}
-use Rattle.program_steps.specs.Terms.{Texts, body_reading}
-use Rattle.program_steps.specs.Standing.{SeenBy}
+use Rattle.program_steps.specs.Terms.{Texts}
 use Rattle.program_steps.specs.Placed.{InSetting}
-use Rattle.program_steps.specs.Typed.{ClaimFits}
+use Rattle.program_steps.specs.Typed.{ClaimFits, MeasureFits}
 use Rattle.program_steps.specs.Functions.{ReturnFits}
 use Rattle.plain_annotations.specs.Plain.{is_plain}
-use Rattle.plain_annotations.specs.Casts.{no_kinds, keeps_casts}
-use Rattle.plain_annotations.specs.Places.{place_over, unset_in, TextsFit}
+use Rattle.plain_annotations.specs.Places.{place_over, TextsFit}
 
 -- ---- tests
 
--- over plain integers, with these variables of the function around and `\result` or not; and no cast of a variable is left out that may never have been set
+-- over plain integers, with these variables of the function around and `\result` or not
 abbrev pub is_claim : Facts → Texts → (own : List program.Variable) → (has_result : Bool) → acsl.Tree → Bool
-is_claim p texts own result a = is_plain (place_over p texts own result) 0 a && keeps_casts p.model (unset_in own) no_kinds 0 a
+is_claim p texts own result a = is_plain (place_over p texts own result) 0 a
 
 -- in the body of a function and at its entry, and where it returns
 abbrev pub is_body_claim : Facts → Texts → Shape → acsl.Tree → Bool
@@ -34,15 +25,6 @@ is_body_claim p texts s a = is_claim p texts s.variables false a
 
 abbrev pub is_promise : Facts → Texts → Shape → acsl.Tree → Bool
 is_promise p texts s a = is_claim p texts s.variables (is_some s.result) a
-
--- ---- measures
-
--- it has a term, which is closed and means it
-pub record MeasureFits (m : sense.World) (p : Facts) (s : Shape) (texts : Texts) (a : acsl.Tree) (here entry loop_entry : ℕ) : Type 0 where
-  pub term : Tree
-  pub is : term_of (body_reading p s texts here entry loop_entry a) a ≡ Some term
-  pub closed : is_closed [] term ≡ true
-  pub means : (w : labelled.World) (sts : List State) → SeenBy p s w sts here entry loop_entry → value m (leaves_of sts) term ≡ number_at p w a
 
 -- ---- the laws
 

@@ -10,11 +10,11 @@ use Rattle.c_runs.specs.Program.{Claim, Measure, Behavior, Contract, Loop, Facts
 use Rattle.plain_runs.specs.Fitting.{Shape}
 use Rattle.program_steps.specs.Terms.{Texts}
 use Rattle.program_steps.specs.Placed.{InSetting}
-use Rattle.program_steps.specs.Typed.{ClaimFits}
+use Rattle.program_steps.specs.Typed.{ClaimFits, MeasureFits}
 use Rattle.program_steps.specs.Functions.{AllOf, SetFits, BehaviorFits}
 use Rattle.program_steps.specs.Starting.{StartFits}
 use Rattle.plain_annotations.specs.Places.{are_none, is_known, TextsFit}
-use Rattle.plain_annotations.specs.Claims.{is_body_claim, is_promise, MeasureFits}
+use Rattle.plain_annotations.specs.Claims.{is_body_claim, is_promise}
 
 -- ---- tests
 

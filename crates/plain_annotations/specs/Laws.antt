@@ -1,7 +1,5 @@
 -- What is so of annotations over plain integers: they have closed formulas and terms, which mean them.
-use Rattle.std.specs.Prelude.{◌≡◌, ℕ, Bool, true, false, List, [], Some}
-use Rattle.typed_prog.specs.declared.operators.Variable.{Variable}
-use Rattle.typed_prog.specs.declared.operators.Variable.TheVariants as variables
+use Rattle.std.specs.Prelude.{◌≡◌, true, List, [], Some}
 use Rattle.acsl_trees.specs.Tree.{Tree}
 use Rattle.acsl_expand.specs.Expansion.{Definition}
 use Rattle.acsl_truth.specs.States.{World, number_of}
@@ -18,42 +16,42 @@ use Rattle.acsl_encode.specs.Binders.{Spelled}
 use Rattle.acsl_encode.specs.Calls.{CallsStand}
 use Rattle.acsl_encode.specs.Laws.{TermsUnmarked, IsUnbound}
 use Rattle.plain_annotations.specs.Plain.{Place, is_plain}
-use Rattle.plain_annotations.specs.Casts.{Unset, no_kinds, keeps_casts}
-use Rattle.plain_annotations.specs.Loose.{loosened, ReadingAlike}
 use Rattle.plain_annotations.specs.Views.{Serves, ReadingIsClosed, IsClosed}
 
--- The formula, and the term, mean the annotation also where variables that may never have been set hold integers of any size.
-pub record HasFormula (m : sense.World) (loose : Variable → Bool) (given : Terms) (r : Reading) (ds : List Definition) (a : Tree) : Type 0 where
+-- `\result` is this
+abbrev pub with_result : Terms → Reading → Reading
+with_result t r = record r { result = t }
+
+-- The formula, and the term, mean the annotation. What stands for `\result` is given beside the reading, where it isn't named.
+pub record HasFormula (m : sense.World) (given : Terms) (r : Reading) (ds : List Definition) (a : Tree) : Type 0 where
   pub formula : Term
   pub is : formula_of r a ≡ Some formula
   pub closed : IsClosed formula
-  pub means : (env : Values) (w : World) → Stands m (loosened loose given r) env w → sense.truth m env formula ≡ holds ds w a
+  pub means : (env : Values) (w : World) → Stands m (with_result given r) env w → sense.truth m env formula ≡ holds ds w a
 
-pub record HasTerm (m : sense.World) (loose : Variable → Bool) (given : Terms) (r : Reading) (ds : List Definition) (a : Tree) : Type 0 where
+pub record HasTerm (m : sense.World) (given : Terms) (r : Reading) (ds : List Definition) (a : Tree) : Type 0 where
   pub term : Term
   pub is : term_of r a ≡ Some term
   pub closed : IsClosed term
-  pub means : (env : Values) (w : World) → Stands m (loosened loose given r) env w
+  pub means : (env : Values) (w : World) → Stands m (with_result given r) env w
       → sense.value m env term ≡ number_of (truth.value (calls_of ds) (named []) 0 w a)
 
--- What is asked of a reading. What stands for `\result` is given beside it, where it isn't named.
-pub record IsOver (names : Spelled) (p : Place) (loose : Variable → Bool) (u : Unset) (given : Terms) (r : Reading) : Type 0 where
+-- what is asked of a reading
+pub record IsOver (names : Spelled) (p : Place) (given : Terms) (r : Reading) : Type 0 where
   pub serves : Serves p r
   pub closed : ReadingIsClosed r
   pub fits : ReadingFits r
   pub unbound : IsUnbound names r
-  pub alike : ReadingAlike loose u p.has_result given r
+  pub result : p.has_result ≡ true → r.result ≡ given
   pub given_fits : TermsFit given
   pub given_unmarked : TermsUnmarked given
-  pub globals : (n : ℕ) → loose (variables.Global n) ≡ false
 
-pub record Fits (m : sense.World) (loose : Variable → Bool) (given : Terms) (r : Reading) (ds : List Definition) (a : Tree) : Type 0 where
-  pub as_formula : HasFormula m loose given r ds a
-  pub as_number : HasTerm m loose given r ds a
+pub record Fits (m : sense.World) (given : Terms) (r : Reading) (ds : List Definition) (a : Tree) : Type 0 where
+  pub as_formula : HasFormula m given r ds a
+  pub as_number : HasTerm m given r ds a
 
--- An annotation that passes both tests has a formula and a term, under whatever reading serves it.
+-- An annotation that passes the test has a formula and a term, under whatever reading serves it.
 abbrev pub AnnotationsFit : Type 0
 AnnotationsFit =
-    (m : sense.World) (names : Spelled) (p : Place) (loose : Variable → Bool) (u : Unset) (given : Terms) (r : Reading) (ds : List Definition) (a : Tree)
-    → IsOver names p loose u given r → CallsStand m.apps (calls_of ds) r.common r.called → is_plain p 0 a ≡ true → keeps_casts r.common.model u no_kinds 0 a ≡ true
-    → Fits m loose given r ds a
+    (m : sense.World) (names : Spelled) (p : Place) (given : Terms) (r : Reading) (ds : List Definition) (a : Tree)
+    → IsOver names p given r → CallsStand m.apps (calls_of ds) r.common r.called → is_plain p 0 a ≡ true → Fits m given r ds a

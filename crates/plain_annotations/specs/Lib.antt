@@ -1,6 +1,4 @@
 pub mod Plain
-pub mod Casts
-pub mod Loose
 pub mod Names
 pub mod Views
 pub mod Laws
@@ -10,3 +8,4 @@ pub mod Clauses
 pub mod Settings
 pub mod Callees
 pub mod Arguments
+pub mod Annotated

@@ -1,5 +1,5 @@
--- What annotations of a function over plain integers may name, and which of its variables may never have been set (ACSL 2.2, 2.3.1).
-use Rattle.std.specs.Prelude.{◌≡◌, ℕ, Bool, true, false, not, ◌&&◌, if◌then◌else◌, List, [], ◌∷◌, length, Option, Some, None, slice_get}
+-- What annotations of a function over plain integers may name (ACSL 2.2, 2.3.1).
+use Rattle.std.specs.Prelude.{◌≡◌, ℕ, Bool, true, false, ◌&&◌, if◌then◌else◌, List, [], ◌∷◌, length, Option, Some, None, slice_get}
 use Rattle.std.specs.Option.{is_some}
 use Rattle.std.specs.List.{list_all}
 use Rattle.wp_base.specs.declared.kinds.Kind.{Kind}
@@ -19,7 +19,6 @@ use Rattle.acsl_encode.specs.Readings.{Named, one, two, Global, integer_global, 
 use Rattle.acsl_encode.specs.Calls.{CallsStand}
 use Rattle.program_steps.specs.Terms.{Texts, common_of}
 use Rattle.plain_annotations.specs.Plain.{Place}
-use Rattle.plain_annotations.specs.Casts.{Unset}
 use Rattle.plain_annotations.specs.Names.{are_c_names}
 
 -- ---- logic functions that call themselves
@@ -58,23 +57,6 @@ is_known p own (variables.Local x) = is_some (slice_get own x)
 -- variables of the file and these, and the result or not
 abbrev pub place_over : Facts → Texts → (own : List program.Variable) → (has_result : Bool) → Place
 place_over p texts own result = record { variables = is_known p own; has_result = result; params = λ f. params_of p (texts.called f) }
-
-abbrev pub never_set : Option program.Variable → Bool
-never_set (Some v) = not v.has_value
-never_set None = false
-
-abbrev pub kind_unset : Option program.Variable → Option Kind
-kind_unset (Some v) = if not v.has_value then Some (kind_of v) else None
-kind_unset None = None
-
--- a variable of the function that is declared without a value
-abbrev pub is_loose : (own : List program.Variable) → Variable → Bool
-is_loose own (variables.Global x) = false
-is_loose own (variables.Local x) = never_set (slice_get own x)
-
-abbrev pub unset_in : (own : List program.Variable) → Unset
-unset_in own (variables.Global x) = None
-unset_in own (variables.Local x) = kind_unset (slice_get own x)
 
 -- ---- what isn't known of a program without its texts
 

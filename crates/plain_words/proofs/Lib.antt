@@ -1,0 +1,12 @@
+pub mod Live
+pub mod Made
+pub mod Planned
+pub mod Singles
+pub mod Switches
+pub mod Statements
+pub mod Typed
+pub mod Closed
+pub mod Items
+pub mod Scoping
+pub mod Standing
+pub mod Whole

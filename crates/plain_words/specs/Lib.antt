@@ -1,0 +1,5 @@
+pub mod Temporaries
+pub mod Standing
+pub mod Sets
+pub mod Results
+pub mod Laws

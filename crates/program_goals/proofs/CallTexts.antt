@@ -36,12 +36,13 @@ use Rattle.walk_steps.specs.Texts.{ChangesWrite, Writes}
 use Rattle.walk_words.specs.Changes.{ranged}
 use Rattle.program_steps.specs.Leaves.{leaf, is_closed}
 use Rattle.program_steps.specs.Stops.{broken_place}
-use Rattle.program_steps.specs.Terms.{Texts, entry_reading}
+use Rattle.program_steps.specs.Terms.{Texts, entry_reading, or_zero}
 use Rattle.program_steps.specs.Words.{Force, of_function, of_loop, Point, under, lacks, write_trees, variable_number}
+use Rattle.program_steps.specs.Staying.{stay_of, stays_from, all_stay}
 use Rattle.program_steps.proofs.Starting.{leaf_closed}
 use Rattle.call_words.specs.Callee.{reading_at, terms_at, argument, param_slot, callee_seen, entered_at, returned_from}
-use Rattle.call_words.specs.Sets.{is_in, truth_tree, only_under, callee_assumes, clause_in, clauses_in, included, included_in, included_in_all, included_by, unless_nothing, inclusion_trees, may_differ, file_changes, stay, stays, all_stay}
-use Rattle.call_words.specs.Words.{or_zero, one_further, change_at, entry_claim, required_trees, all_required, call_requires, lower_by, promise, promised_trees, all_promised, call_promises, answer_step, answer_term, placed_in, received, behind_call, call_by, call_word}
+use Rattle.call_words.specs.Sets.{is_in, truth_tree, only_under, callee_assumes, clause_in, clauses_in, included, included_in, included_in_all, included_by, unless_nothing, inclusion_trees, may_differ, file_changes}
+use Rattle.call_words.specs.Words.{stay_trees, one_further, change_at, entry_claim, required_trees, all_required, call_requires, lower_by, promise, promised_trees, all_promised, call_promises, answer_step, answer_term, placed_in, received, behind_call, call_by, call_word}
 use Rattle.program_goals.specs.Texts.{TextsFit}
 use Rattle.program_goals.proofs.Names.{and_both, leaf_is_int, binder_is_int}
 use Rattle.program_goals.proofs.Formulas.{more_formulas, one_formula, under_fits, and_fits, any_of_fits, global_fits, claim_fits, assumed_fits, entry_fits, body_fits, writes_fit}
@@ -195,19 +196,28 @@ module _ (p : Facts) (s : Shape) where
     inclusions_fit : (c : Contract) (pt : Point) → AllFormulas (inclusion_trees p s texts g es c pt)
     inclusions_fit c pt = unless_fits g.contract.plain.assigns (included_by p s texts g es (suc pt.entry) c pt.force) (included_by_fits (suc pt.entry) c pt.force)
 
-    stay_fits : (b : Behavior) (x : ℕ) → AllFormulas (stay p s texts g es b x)
+    abbrev stay : Behavior → ℕ → List Tree
+    stay b x = stay_of (callee_assumes p s texts g es 1 b) b.assigns (may_differ g.contract) x
+
+    abbrev stays : Behavior → ℕ → List program.Variable → List Tree
+    stays b x vs = stays_from (callee_assumes p s texts g es 1 b) b.assigns (may_differ g.contract) x vs
+
+    stay_fits : (b : Behavior) (x : ℕ) → AllFormulas (stay b x)
     stay_fits b x = by (may_differ g.contract x && lacks b.assigns (variables.Global x)) where
       by : (t : Bool) → AllFormulas (if t then under false (callee_assumes p s texts g es 1 b) (equal (leaf 0 (value_slot x)) (leaf 1 (value_slot x))) ∷ [] else [])
       by true = (under_fits false (callee_assumes p s texts g es 1 b) (equal (leaf 0 (value_slot x)) (leaf 1 (value_slot x))) (assumes_fit 1 b) (and_both (leaf_is_int 0 (value_slot x)).int (and_both (leaf_is_int 1 (value_slot x)).int refl)), tt)
       by false = tt
 
-    stays_fit : (b : Behavior) (x : ℕ) (vs : List program.Variable) → AllFormulas (stays p s texts g es b x vs)
+    stays_fit : (b : Behavior) (x : ℕ) (vs : List program.Variable) → AllFormulas (stays b x vs)
     stays_fit b x [] = tt
-    stays_fit b x (v ∷ vs) = more_formulas (stay p s texts g es b x) _ (stay_fits b x) (stays_fit b (suc x) vs)
+    stays_fit b x (v ∷ vs) = more_formulas (stay b x) _ (stay_fits b x) (stays_fit b (suc x) vs)
 
-    all_stay_fit : (bs : List Behavior) → AllFormulas (all_stay p s texts g es bs)
+    abbrev staying : List Behavior → List Tree
+    staying bs = all_stay (callee_assumes p s texts g es 1) (may_differ g.contract) p.globals bs
+
+    all_stay_fit : (bs : List Behavior) → AllFormulas (staying bs)
     all_stay_fit [] = tt
-    all_stay_fit (b ∷ bs) = more_formulas (stays p s texts g es b 0 p.globals) _ (stays_fit b 0 p.globals) (all_stay_fit bs)
+    all_stay_fit (b ∷ bs) = more_formulas (stays b 0 p.globals) _ (stays_fit b 0 p.globals) (all_stay_fit bs)
 
 -- ---- words
 
@@ -258,7 +268,7 @@ module _ (Term Formula : Tree → Type 0) (fills : Fills Term Formula) (m : sens
     behind_writes pt to g es = (
       files_write g.contract 0 p.globals,
       (
-        knows_write Term Formula fills m (all_stay p s texts g es g.contract.behaviors) (all_stay_fit p s texts named g es g.contract.behaviors),
+        knows_write Term Formula fills m (stay_trees p s texts g es) (all_stay_fit p s texts named g es g.contract.behaviors),
         (
           answer_writes g.result,
           (

@@ -38,7 +38,7 @@ goals_are_in_order setting q texts n f g = record {
   numbers = walked.goals_are_numbered g.bases (start_in (world_of setting) q texts n f g) (word_of (world_of setting) q texts n f g);
 }
 
-are_fit : (setting : Setting) (q : Program Steps) (texts : Texts) (n : ℕ) (f : Function Steps) (g : Written) → FunctionIn setting q texts n f g
+pub are_fit : (setting : Setting) (q : Program Steps) (texts : Texts) (n : ℕ) (f : Function Steps) (g : Written) → FunctionIn setting q texts n f g
     → AreFit setting g.bases (start_in (world_of setting) q texts n f g) (word_of (world_of setting) q texts n f g)
 are_fit setting q texts n f g part = record {
   size = part.size;
@@ -95,7 +95,7 @@ module _ (setting : Setting) (q : Program Steps) (texts : Texts) (written : ℕ 
   abbrev word : Step
   word = word_of m q texts n f g
 
-  placed_so : (a : Goal) → In a (goals_of setting q texts n f g) → (e : Stop) → FailsAs (places word) 0 a.number e → IsStop e a.place
+  pub placed_so : (a : Goal) → In a (goals_of setting q texts n f g) → (e : Stop) → FailsAs (places word) 0 a.number e → IsStop e a.place
   placed_so a listed e h =
       let o = goals_are_in_order setting q texts n f g in
       subst (IsStop e) (sym (place_is (goals_of setting q texts n f g) (places word) 0 o.places o.numbers a listed h.0 h.1)) h.2
@@ -108,7 +108,7 @@ module _ (setting : Setting) (q : Program Steps) (texts : Texts) (written : ℕ 
       let t = r.1.1.1 in
       (t.0, (placed_so a listed t.0 t.1.1, (r.0, (r.1.0, (r.1.1.0, t.1.0)))))
 
-  fails_so : (e : Stop) (x : End) → FunctionEnds q.facts (shape_in f g) (places word) (stops e) x → (i : ℕ) × ((x ≡ fails i) × FailsAs (places word) 0 i e)
+  pub fails_so : (e : Stop) (x : End) → FunctionEnds q.facts (shape_in f g) (places word) (stops e) x → (i : ℕ) × ((x ≡ fails i) × FailsAs (places word) 0 i e)
   fails_so e (goes_on st) h = absurd h
   fails_so e (leaves k st) h = absurd h
   fails_so e (fails i) h = (i, (refl, h))

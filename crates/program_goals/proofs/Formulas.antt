@@ -15,10 +15,12 @@ use Rattle.plain_states.specs.Scopes.{kind_of}
 use Rattle.plain_runs.specs.Fitting.{Shape, sizes}
 use Rattle.value_terms.specs.Readings as readings
 use Rattle.acsl_encode.specs.Readings as annotation
+use Rattle.acsl_encode.specs.Readings.{whole, any_integer}
 use Rattle.acsl_encode.specs.WellFormed.{IsFormula, SlotFits, SeenFits, ReadingFits}
 use Rattle.acsl_encode.specs.Encode.{formula_of}
 use Rattle.acsl_encode.proofs.Fitting.{AllFormulas, all_of_fits, two_fit}
 use Rattle.acsl_encode.proofs.Fitted.{formulas_fit}
+use Rattle.program_steps.specs.Leaves.{leaf}
 use Rattle.program_steps.specs.Terms.{Texts, reading, global_slot, local_slot, seen_at, body_reading, entry_reading, return_reading, or_none, claim_tree, assumed_tree, has_variable}
 use Rattle.program_steps.specs.Words.{Force, of_function, of_loop, Point, as_one, under, lacks, missing_in, missing_all, missing, is_inside, write_trees}
 use Rattle.program_steps.specs.Functions.{any_of, not_both, no_two, behavior_tree, named_tree, named_trees}
@@ -83,7 +85,10 @@ module _ (p : Facts) (s : Shape) where
 
   local_fits : (l x : ℕ) (o : Option program.Variable) → SlotFits (local_slot p s l x o)
   local_fits l x None = tt
-  local_fits l x (Some v) = leaf_is_int l (local_value (sizes p s) x)
+  local_fits l x (Some v) = by v.has_value where
+    by : (b : Bool) → SlotFits (if b then whole (kind_of v) (leaf l (local_value (sizes p s) x)) else any_integer (leaf l (local_value (sizes p s) x)))
+    by true = leaf_is_int l (local_value (sizes p s) x)
+    by false = leaf_is_int l (local_value (sizes p s) x)
 
   pub seen_fits : (g l : ℕ) → SeenFits (seen_at p s g l)
   seen_fits g l = record { variables = variables_fit; table = tt; numbers = λ k. tt; pointers = tt } where

@@ -9,5 +9,6 @@ pub mod Others
 pub mod Stops
 pub mod Runs
 pub mod Exact
+pub mod Checks
 pub mod Texts
 pub mod Worked

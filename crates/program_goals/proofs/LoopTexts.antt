@@ -22,10 +22,11 @@ use Rattle.walk_steps.specs.Forms.{forms}
 use Rattle.walk_steps.specs.Step.{Change, Step}
 use Rattle.walk_steps.specs.Texts.{AllWrite, ChangesWrite, Writes}
 use Rattle.program_steps.specs.Stops.{broken_place}
-use Rattle.program_steps.specs.Terms.{Texts, entry_reading, claim_tree, assumed_tree}
+use Rattle.program_steps.specs.Terms.{Texts, entry_reading, claim_tree, assumed_tree, or_zero}
 use Rattle.program_steps.specs.Words.{Force, of_function, of_loop, Point, under, lacks}
+use Rattle.program_steps.specs.Staying.{stays, stays_from, all_stay}
 use Rattle.loop_words.specs.Sets.{lacks_some, some_outside, lacking_in, lacking_all, within, inside_trees, file_changes, local_changes}
-use Rattle.loop_words.specs.Words.{value_change, flag_change, file_list, local_list, stays, stays_from, all_stay, stay_trees, head_reading, end_reading, before_reading, or_zero, measure_tree, head_tree, entry_check, kept_check, variant_checks, loop_word}
+use Rattle.loop_words.specs.Words.{value_change, flag_change, file_list, local_list, assumed_at, stay_trees, head_reading, end_reading, before_reading, measure_tree, head_tree, entry_check, kept_check, variant_checks, loop_word}
 use Rattle.program_goals.specs.Texts.{TextsFit}
 use Rattle.program_goals.proofs.Names.{and_both, leaf_is_int}
 use Rattle.program_goals.proofs.Formulas.{more_formulas, one_formula, under_fits, body_fits, claim_fits, entry_fits}
@@ -60,20 +61,20 @@ module _ (p : Facts) (s : Shape) (texts : Texts) (named : TextsFit texts) where
     by None = tt
     by (Some rs) = within_fits (suc pt.entry) c pt.force rs
 
-  stay_fits : (x : ℕ) → IsFormula (stays p s texts x)
+  stay_fits : (x : ℕ) → IsFormula (stays x)
   stay_fits x = and_both (leaf_is_int 0 (value_slot x)).int (and_both (leaf_is_int 1 (value_slot x)).int refl)
 
-  stays_fit : (a : Tree) → IsFormula a → (set : Option (List acsl.Tree)) (f : ℕ → Bool) (x : ℕ) (vs : List Variable) → AllFormulas (stays_from p s texts a set f x vs)
+  stays_fit : (a : Tree) → IsFormula a → (set : Option (List acsl.Tree)) (f : ℕ → Bool) (x : ℕ) (vs : List Variable) → AllFormulas (stays_from a set f x vs)
   stays_fit a h set f x [] = tt
   stays_fit a h set f x (v ∷ vs) = by (f x && lacks set (variables.Global x)) (stays_fit a h set f (suc x) vs) where
-    by : (t : Bool) → AllFormulas (stays_from p s texts a set f (suc x) vs) → AllFormulas ((if t then imp_of a (stays p s texts x) ∷ [] else []) ++ stays_from p s texts a set f (suc x) vs)
+    by : (t : Bool) → AllFormulas (stays_from a set f (suc x) vs) → AllFormulas ((if t then imp_of a (stays x) ∷ [] else []) ++ stays_from a set f (suc x) vs)
     by true rest = (and_both h (and_both (stay_fits x) refl), rest)
     by false rest = rest
 
-  all_stay_fit : (e : ℕ) (f : ℕ → Bool) (bs : List Behavior) → AllFormulas (all_stay p s texts e f bs)
+  all_stay_fit : (e : ℕ) (f : ℕ → Bool) (bs : List Behavior) → AllFormulas (all_stay (assumed_at p s texts e) f p.globals bs)
   all_stay_fit e f [] = tt
   all_stay_fit e f (b ∷ bs) =
-      more_formulas (stays_from p s texts (assumed_tree p s texts (entry_reading p s texts e) b.assumes) b.assigns f 0 p.globals) _
+      more_formulas (stays_from (assumed_tree p s texts (entry_reading p s texts e) b.assumes) b.assigns f 0 p.globals) _
       (stays_fit (assumed_tree p s texts (entry_reading p s texts e) b.assumes) (entry_fits p s texts named e b) b.assigns f 0 p.globals) (all_stay_fit e f bs)
 
   stay_trees_fit : (c : Contract) (pt : Point) (l : Loop) → AllFormulas (stay_trees p s texts c pt l)
@@ -90,7 +91,7 @@ module _ (p : Facts) (s : Shape) (texts : Texts) (named : TextsFit texts) where
 
   pub measure_int : (r : acsl.Tree → annotation.Reading) (a : acsl.Tree) → ReadingFits (r a) → fits int (measure_tree p s texts r a) ≡ true
   measure_int r a good = by (encode.term_of (r a) a) refl where
-    by : (o : Option Tree) → encode.term_of (r a) a ≡ o → fits int (or_zero p s texts o) ≡ true
+    by : (o : Option Tree) → encode.term_of (r a) a ≡ o → fits int (or_zero o) ≡ true
     by None e = refl
     by (Some u) e = ((formulas_fit (r a) a good).number u e).int
 

@@ -1,5 +1,5 @@
 -- What goals say of runs.
-use Rattle.std.specs.Prelude.{◌≡◌, ℕ, zero, Bool, true, false, List, map, Some}
+use Rattle.std.specs.Prelude.{◌≡◌, ℕ, zero, Bool, true, false, List, [], map, Some}
 use Rattle.acsl_truth.specs.States.{Value}
 use Rattle.qed_terms.specs.Meaning as sense
 use Rattle.qed_terms.specs.Setting.{Setting, world_of, Valid}
@@ -22,9 +22,11 @@ use Rattle.walk_steps.specs.State.{In}
 use Rattle.walk_steps.specs.Texts.{NamesAreGiven}
 use Rattle.walk_steps.specs.Step.{places, count}
 use Rattle.walk_steps.specs.Walk.{Goal, formula_of}
-use Rattle.walk_steps.specs.Laws.{from, IsExact}
+use Rattle.walk_steps.specs.Run as steps
+use Rattle.walk_steps.specs.Laws.{from, Starts, IsExact}
 use Rattle.program_steps.specs.Stops.{IsStop}
 use Rattle.program_steps.specs.Terms.{Texts}
+use Rattle.program_steps.specs.Standing.{FailsAs}
 use Rattle.program_steps.specs.Functions.{EntersAs, FunctionEnds, FunctionRuns}
 use Rattle.program_goals.specs.Words.{Written, shape_in, word_of, start_in}
 use Rattle.program_goals.specs.Texts.{AreIntegerNames, TextsFit}
@@ -101,6 +103,40 @@ FalsifiedGoalsFail =
     (setting : Setting) (q : Program Steps) (texts : Texts) (written : ℕ → Written) → ProgramFits setting q texts written
     → (n : ℕ) (f : Function Steps) → q.functions n ≡ Some f → (a : Goal) → In a (goals_of setting q texts n f (written n))
     → (env : sense.Values) → sense.truth (world_of setting) env (formula_of a) ≡ false → (e : Stop) × (IsStop e a.place × SomeStops q n f e)
+
+-- ---- each goal at its own check
+
+module _ (setting : Setting) (q : Program Steps) (texts : Texts) (n : ℕ) (f : Function Steps) (g : Written) where
+  -- A segment run goes wrong at the check with this number: from slots that stand for its world a run of the function's word fails there, and the check is one
+  -- of the same kind and line.
+  pub record StopsAt (number : ℕ) (vs : List Value) (w : World) (e : Stop) : Type 0 where
+    pub enters : Enters q f vs w.memory
+    pub run : FunctionSeg q n f vs w (stops e)
+    pub slots : State
+    pub stand : EntersAs q.facts (shape_in f g) f vs w slots
+    pub start : Starts (start_in (world_of setting) q texts n f g) slots
+    pub fails : steps.Seg [] zero (word_of (world_of setting) q texts n f g) slots (steps.fails number)
+    pub place : FailsAs (places (word_of (world_of setting) q texts n f g)) zero number e
+
+  abbrev pub SomeStopsAt : (number : ℕ) → Type 0
+  SomeStopsAt i = (vs : List Value) × ((w : World) × ((e : Stop) × StopsAt i vs w e))
+
+  -- A goal is valid exactly where no segment run goes wrong at its check.
+  pub record CheckIsExact (a : Goal) : Type 0 where
+    pub sound : Valid setting (formula_of a) → SomeStopsAt a.number → ⊥
+    pub complete : (SomeStopsAt a.number → ⊥) → Valid setting (formula_of a)
+
+abbrev pub GoalsAreExactByCheck : Type 0
+GoalsAreExactByCheck =
+    (setting : Setting) (q : Program Steps) (texts : Texts) (written : ℕ → Written) → ProgramFits setting q texts written
+    → (n : ℕ) (f : Function Steps) → q.functions n ≡ Some f → (a : Goal) → In a (goals_of setting q texts n f (written n)) → CheckIsExact setting q texts n f (written n) a
+
+-- Each segment run that goes wrong does so at the check of a goal.
+abbrev pub StopsHaveGoals : Type 0
+StopsHaveGoals =
+    (setting : Setting) (q : Program Steps) (texts : Texts) (written : ℕ → Written) → ProgramFits setting q texts written
+    → (n : ℕ) (f : Function Steps) → q.functions n ≡ Some f → (vs : List Value) (w : World) → Enters q f vs w.memory → (e : Stop) → FunctionSeg q n f vs w (stops e)
+    → (a : Goal) × (In a (goals_of setting q texts n f (written n)) × (IsStop e a.place × StopsAt setting q texts n f (written n) a.number vs w e))
 
 -- ---- goals as texts
 

@@ -3,11 +3,13 @@ ghost use Rattle.program_goals.specs.Examples.{ExampleGoals};
 ghost use Rattle.program_goals.specs.Laws.{
   FalsifiedGoalsFail,
   GoalsAreExact,
+  GoalsAreExactByCheck,
   GoalsAreExactForRuns,
   GoalsAreInOrder,
   GoalsAreWellFormed,
   GoalsHaveGivenNames,
   SegmentsAreWords,
+  StopsHaveGoals,
   ValidGoalsRunWell,
   ValidGoalsSuffice,
 };
@@ -40,6 +42,16 @@ pub fn goals_are_exact_for_runs()
 /// Values that falsify a goal are a world from which a segment run goes wrong as the goal's check does.
 pub fn falsified_goals_fail()
     ensures { FalsifiedGoalsFail }
+{}
+
+/// Each goal is valid exactly where no segment run goes wrong at its check.
+pub fn goals_are_exact_by_check()
+    ensures { GoalsAreExactByCheck }
+{}
+
+/// Each segment run that goes wrong does so at the check of a goal.
+pub fn stops_have_goals()
+    ensures { StopsHaveGoals }
 {}
 
 /// Goals are well formed.

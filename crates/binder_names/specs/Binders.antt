@@ -6,6 +6,7 @@ use Rattle.c_syntax.specs.Expr.{VarDecl}
 use Rattle.c_syntax.specs.Term as t
 use Rattle.c_syntax.specs.Pred as p
 use Rattle.c_syntax.specs.Decl as d
+use Rattle.typed_unit.specs.Unit as u
 use Rattle.acsl_encode.specs.Binders.{Spelled}
 
 -- ---- definitions
@@ -64,15 +65,14 @@ abbrev pub body_binders : List Known → d.LogicBody → Spelled
 body_binders ks (d.term a) = []
 body_binders ks (d.pred a) = binders_of ks a
 
-abbrev pub with_decl : List Known → d.Decl → List Known
-with_decl ks (d.logic_decl l) = record { name = l.name; binders = body_binders ks l.body } ∷ ks
-with_decl ks (d.struct_decl x) = ks
-with_decl ks (d.enum_decl x) = ks
-with_decl ks (d.typedef_decl x) = ks
-with_decl ks (d.globals xs) = ks
-with_decl ks (d.function f) = ks
+abbrev pub known_as : List Known → d.LogicDecl → Known
+known_as ks l = record { name = l.name; binders = body_binders ks l.body }
+
+abbrev pub with_decl : List Known → u.Annotated → List Known
+with_decl ks (u.of_logic l) = known_as ks l ∷ ks
+with_decl ks (u.of_function n params k has_body) = ks
 
 -- those of a file, the last ones first, behind these; each is known behind its declaration
-abbrev pub known_behind : List Known → List d.Decl → List Known
+abbrev pub known_behind : List Known → List u.Part → List Known
 known_behind ks [] = ks
-known_behind ks (x ∷ xs) = known_behind (with_decl ks x) xs
+known_behind ks (x ∷ xs) = known_behind (with_decl ks x.decl) xs

@@ -2,7 +2,7 @@
 use Rattle.std.specs.Prelude.{List, [], ◌∷◌, ◌++◌}
 use Rattle.c_syntax.specs.Pred.{Pred}
 use Rattle.c_syntax.specs.Contract as spelled
-use Rattle.c_syntax.specs.Stmt as s
+use Rattle.typed_unit.specs.Stmt as s
 use Rattle.c_runs.specs.Program as r
 
 pub data Note : Type 0 where
@@ -13,23 +13,21 @@ abbrev pub preds_of : List spelled.Clause → List Pred
 preds_of [] = []
 preds_of (c ∷ cs) = c.pred ∷ preds_of cs
 
+-- Statements are typed, and have their annotations as they are spelled.
 abbrev mutual
   pub notes_of : s.Stmt → List Note
   notes_of (s.empty line) = []
-  notes_of (s.expr line a) = []
+  notes_of (s.expr line v) = []
   notes_of (s.block line body) = all_notes body
   notes_of (s.locals line vars) = []
-  notes_of (s.if_only line test x) = notes_of x
   notes_of (s.if_else line test x y) = notes_of x ++ notes_of y
-  notes_of (s.while_of line l test body) = of_loop (preds_of l.invariants) ∷ notes_of body
-  notes_of (s.do_of line l body test) = of_loop (preds_of l.invariants) ∷ notes_of body
-  notes_of (s.for_of line l first test next body) = notes_of first ++ of_loop (preds_of l.invariants) ∷ notes_of body
-  notes_of (s.switch line a body) = all_notes body
-  notes_of (s.case_of line a) = []
+  notes_of (s.loop_of line l turns body) = of_loop (preds_of l.invariants) ∷ notes_of body
+  notes_of (s.switch line v body) = all_notes body
+  notes_of (s.case_of line z) = []
   notes_of (s.default line) = []
   notes_of (s.break line) = []
   notes_of (s.continue line) = []
-  notes_of (s.return_of line a) = []
+  notes_of (s.return_of line v) = []
   notes_of (s.assert line p) = of_assertion p ∷ []
 
   pub all_notes : s.Stmts → List Note

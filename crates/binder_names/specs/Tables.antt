@@ -1,17 +1,16 @@
 -- The table of a file's annotations with their binders, and the law that all of them are names of C. Where two annotations are the same tree, the first one
 -- counts.
-use Rattle.std.specs.Prelude.{◌≡◌, Bool, true, ◌&&◌, if◌then◌else◌, List, [], ◌∷◌, ◌++◌, map, Option, Some, None}
+use Rattle.std.specs.Prelude.{◌≡◌, ℕ, Bool, true, if◌then◌else◌, List, [], ◌∷◌, ◌++◌, Option, Some, None}
 use Rattle.std.specs.List.{list_all}
 use Rattle.c_syntax.specs.Pred.{Pred}
-use Rattle.c_syntax.specs.Pred as p
 use Rattle.c_syntax.specs.Contract as spelled
-use Rattle.c_syntax.specs.Stmt as s
-use Rattle.c_syntax.specs.Decl as d
+use Rattle.typed_unit.specs.Stmt as s
+use Rattle.typed_unit.specs.Unit as u
 use Rattle.acsl_trees.specs.Tree.{Tree}
 use Rattle.c_runs.specs.Program.{Claim, Behavior, Contract, Function, Stmts}
 use Rattle.acsl_encode.specs.Binders.{Spelled}
 use Rattle.plain_annotations.specs.Names.{are_c_names}
-use Rattle.binder_names.specs.Binders.{Known, binders_of, name_of, known_behind}
+use Rattle.binder_names.specs.Binders.{Known, binders_of, known_behind}
 use Rattle.binder_names.specs.Trees.{same_tree}
 use Rattle.binder_names.specs.Notes.{Note, of_loop, of_assertion, preds_of, notes_of, Claimed, at_loop, at_assertion, all_claimed}
 
@@ -23,47 +22,69 @@ pub record Named : Type 0 where
 module _ (known : List Known) where
   -- ---- side by side, in the order of the text
 
+  abbrev pub named_as : Pred → Tree → Named
+  named_as a t = record { tree = t; binders = binders_of known a }
+
   abbrev pub claims_named : List Pred → List Claim → List Named
-  claims_named (a ∷ ps) (c ∷ cs) = record { tree = c.what; binders = binders_of known a } ∷ claims_named ps cs
+  claims_named (a ∷ ps) (c ∷ cs) = named_as a c.what ∷ claims_named ps cs
   claims_named ps cs = []
 
   abbrev pub trees_named : List Pred → List Tree → List Named
-  trees_named (a ∷ ps) (t ∷ ts) = record { tree = t; binders = binders_of known a } ∷ trees_named ps ts
+  trees_named (a ∷ ps) (t ∷ ts) = named_as a t ∷ trees_named ps ts
   trees_named ps ts = []
 
+  abbrev pub behavior_named : spelled.Behavior → Behavior → List Named
+  behavior_named b c =
+      trees_named (preds_of b.assumes) c.assumes ++ (claims_named (preds_of b.requires_) c.requires ++ claims_named (preds_of b.ensures_) c.ensures)
+
   abbrev pub behaviors_named : List spelled.Behavior → List Behavior → List Named
-  behaviors_named (b ∷ bs) (c ∷ cs) =
-      trees_named (preds_of b.assumes) c.assumes ++ (claims_named (preds_of b.requires_) c.requires ++ (claims_named (preds_of b.ensures_) c.ensures ++ behaviors_named bs cs))
+  behaviors_named (b ∷ bs) (c ∷ cs) = behavior_named b c ++ behaviors_named bs cs
   behaviors_named bs cs = []
 
   abbrev pub contract_named : spelled.Contract → Contract → List Named
   contract_named k c =
       claims_named (preds_of k.requires_) c.plain.requires ++ (claims_named (preds_of k.ensures_) c.plain.ensures ++ behaviors_named k.behaviors c.behaviors)
 
+  abbrev pub note_named : Note → Claimed → List Named
+  note_named (of_loop ps) (at_loop cs) = claims_named ps cs
+  note_named (of_assertion a) (at_assertion c) = named_as a c.what ∷ []
+  note_named (of_loop ps) (at_assertion c) = []
+  note_named (of_assertion a) (at_loop cs) = []
+
   abbrev pub notes_named : List Note → List Claimed → List Named
-  notes_named (of_loop ps ∷ ns) (at_loop cs ∷ ds) = claims_named ps cs ++ notes_named ns ds
-  notes_named (of_assertion a ∷ ns) (at_assertion c ∷ ds) = record { tree = c.what; binders = binders_of known a } ∷ notes_named ns ds
+  notes_named (n ∷ ns) (d ∷ ds) = note_named n d ++ notes_named ns ds
   notes_named ns ds = []
+
+  -- ---- functions
+
+  abbrev pub contract_of : spelled.Contract → Option (Function Stmts) → List Named
+  contract_of k (Some f) = contract_named k f.contract
+  contract_of k None = []
+
+  abbrev pub body_of : s.Stmt → Option (Function Stmts) → List Named
+  body_of x (Some f) = notes_named (notes_of x) (all_claimed f.body)
+  body_of x None = []
+
+  -- functions by their numbers
+  module _ (functions : (number : ℕ) → Option (Function Stmts)) where
+    abbrev pub decl_named : u.Annotated → List Named
+    decl_named (u.of_function n params k has_body) = contract_of k (functions n)
+    decl_named (u.of_logic l) = []
+
+    -- each declaration's contract beside that of the function, which is spelled at one of them
+    abbrev pub decls_named : List u.Part → List Named
+    decls_named [] = []
+    decls_named (x ∷ xs) = decl_named x.decl ++ decls_named xs
+
+    abbrev pub bodies_named : List u.Body → List Named
+    bodies_named [] = []
+    bodies_named (b ∷ bs) = body_of b.stmt (functions b.function) ++ bodies_named bs
 
 -- ---- files
 
--- a function as it is spelled, and as it runs
-pub record Both : Type 0 where
-  pub spelled : d.Function
-  pub run : Function Stmts
-
-abbrev pub body_notes : d.Function → List Note
-body_notes f = by f.body where
-  by : Option s.Stmt → List Note
-  by None = []
-  by (Some x) = notes_of x
-
-abbrev pub function_named : List Known → Both → List Named
-function_named ks f = contract_named ks f.spelled.contract f.run.contract ++ notes_named ks (body_notes f.spelled) (all_claimed f.run.body)
-
-abbrev pub all_named : List Known → List Both → List Named
-all_named ks [] = []
-all_named ks (f ∷ fs) = function_named ks f ++ all_named ks fs
+-- of a typed file, and its functions as they run
+abbrev pub table_of : u.Typed → (functions : (number : ℕ) → Option (Function Stmts)) → List Named
+table_of t fs = decls_named (known_behind [] t.parts) fs t.parts ++ bodies_named (known_behind [] t.parts) fs t.bodies
 
 -- ---- look-up
 
@@ -71,61 +92,15 @@ abbrev pub named_in : List Named → Tree → Spelled
 named_in [] a = []
 named_in (x ∷ xs) a = if same_tree x.tree a then x.binders else named_in xs a
 
--- of a program and its functions, by all of its definitions
-abbrev pub file_binders : d.Program → List Both → Tree → Spelled
-file_binders q fs a = named_in (all_named (known_behind [] q) fs) a
-
 -- ---- the law
 
--- binders are names of C as they are spelled
-abbrev pub is_named : p.Pred → Bool
-is_named (p.always line) = true
-is_named (p.never line) = true
-is_named (p.not_of line a) = is_named a
-is_named (p.and_of line a b) = is_named a && is_named b
-is_named (p.xor_of line a b) = is_named a && is_named b
-is_named (p.or_of line a b) = is_named a && is_named b
-is_named (p.implies line a b) = is_named a && is_named b
-is_named (p.iff line a b) = is_named a && is_named b
-is_named (p.cond line a b c) = is_named a && (is_named b && is_named c)
-is_named (p.let_in line x v a) = is_named a
-is_named (p.chain line ts os) = true
-is_named (p.for_all line vs a) = are_c_names (map name_of vs) && is_named a
-is_named (p.for_some line vs a) = are_c_names (map name_of vs) && is_named a
-is_named (p.valid line a) = true
-is_named (p.valid_read line a) = true
-is_named (p.separated line ts) = true
-is_named (p.old line a) = is_named a
-is_named (p.call line f args) = true
+-- all binders have names of C
+abbrev pub has_names : Named → Bool
+has_names x = are_c_names x.binders
 
-abbrev pub body_is_named : d.LogicBody → Bool
-body_is_named (d.term a) = true
-body_is_named (d.pred a) = is_named a
+abbrev pub is_named_table : List Named → Bool
+is_named_table xs = list_all has_names xs
 
-abbrev pub decl_is_named : d.Decl → Bool
-decl_is_named (d.logic_decl l) = body_is_named l.body
-decl_is_named (d.struct_decl x) = true
-decl_is_named (d.enum_decl x) = true
-decl_is_named (d.typedef_decl x) = true
-decl_is_named (d.globals xs) = true
-decl_is_named (d.function f) = true
-
-abbrev pub are_named : List spelled.Clause → Bool
-are_named cs = list_all is_named (preds_of cs)
-
-abbrev pub behavior_is_named : spelled.Behavior → Bool
-behavior_is_named b = are_named b.assumes && (are_named b.requires_ && are_named b.ensures_)
-
-abbrev pub contract_is_named : spelled.Contract → Bool
-contract_is_named k = are_named k.requires_ && (are_named k.ensures_ && list_all behavior_is_named k.behaviors)
-
-abbrev pub note_is_named : Note → Bool
-note_is_named (of_loop ps) = list_all is_named ps
-note_is_named (of_assertion a) = is_named a
-
-abbrev pub both_is_named : Both → Bool
-both_is_named f = contract_is_named f.spelled.contract && list_all note_is_named (body_notes f.spelled)
-
--- Where each binder of a program has a name of C, each annotation is given names of C.
+-- Then each annotation is given names of C.
 abbrev pub NamesFit : Type 0
-NamesFit = (q : d.Program) (fs : List Both) → list_all decl_is_named q ≡ true → list_all both_is_named fs ≡ true → (a : Tree) → are_c_names (file_binders q fs a) ≡ true
+NamesFit = (xs : List Named) → is_named_table xs ≡ true → (a : Tree) → are_c_names (named_in xs a) ≡ true

@@ -1,7 +1,6 @@
--- Whether two typed annotations are one tree: heads are compared by numbers, each with what stands in it, and kids one by one.
-use Rattle.std.specs.Prelude.{Bool, true, false, ◌&&◌, ℤ, pos, List, [], ◌∷◌, ◌++◌, Option, Some, None}
+-- Whether two typed annotations are one tree: heads are compared by their rank and by two numbers of what stands in them, and kids one by one.
+use Rattle.std.specs.Prelude.{ℕ, ◌+◌, ◌==◌, Bool, true, false, ◌&&◌, ℤ, pos, Option, Some, None}
 use Rattle.std.specs.Ordering.{int_eq}
-use Rattle.wp_base.specs.declared.kinds.Kind.{Kind}
 use Rattle.wp_base.specs.Kinds.{kind_place}
 use Rattle.typed_prog.specs.declared.operators.Variable.{Variable}
 use Rattle.typed_prog.specs.declared.operators.Variable.TheVariants as variables
@@ -21,107 +20,127 @@ use Rattle.acsl_trees.specs.Tree.{Tree, Trees, node, stop, more}
 
 -- ---- what stands in heads, as numbers
 
-abbrev pub flag : Bool → ℤ
-flag true = pos 1
-flag false = pos 0
+abbrev pub flag : Bool → ℕ
+flag true = 1
+flag false = 0
 
-abbrev pub kind_number : Kind → ℤ
-kind_number k = pos (kind_place k)
+-- kinds have places below 12
+abbrev pub content_number : Content → ℕ
+content_number (content.Integer k) = kind_place k
+content_number content.Pointer = 12
+content_number (content.Struct n) = n + 13
 
-abbrev pub variable_number : Variable → List ℤ
-variable_number (variables.Global x) = pos 0 ∷ pos x ∷ []
-variable_number (variables.Local x) = pos 1 ∷ pos x ∷ []
+abbrev pub label_number : Label → ℕ
+label_number label.Here = 1
+label_number label.Pre = 2
+label_number label.Post = 3
+label_number label.LoopEntry = 4
 
-abbrev pub content_number : Content → List ℤ
-content_number (content.Integer k) = pos 0 ∷ kind_number k ∷ []
-content_number content.Pointer = pos 1 ∷ []
-content_number (content.Struct n) = pos 2 ∷ pos n ∷ []
+abbrev pub label_numbers : Option Label → ℕ
+label_numbers None = 0
+label_numbers (Some l) = label_number l
 
-abbrev pub label_number : Label → ℤ
-label_number label.Here = pos 0
-label_number label.Pre = pos 1
-label_number label.Post = pos 2
-label_number label.LoopEntry = pos 3
+abbrev pub ends_number : (low_out high_out : Bool) → ℕ
+ends_number true true = 12
+ends_number true false = 13
+ends_number false true = 14
+ends_number false false = 15
 
-abbrev pub label_numbers : Option Label → List ℤ
-label_numbers None = pos 0 ∷ []
-label_numbers (Some l) = pos 1 ∷ label_number l ∷ []
+abbrev pub range_number : Range → ℕ
+range_number (range.Between a z) = ends_number a z
+range_number (range.Kind k) = kind_place k
 
-abbrev pub range_number : Range → List ℤ
-range_number (range.Between a z) = pos 0 ∷ flag a ∷ flag z ∷ []
-range_number (range.Kind k) = pos 1 ∷ kind_number k ∷ []
+abbrev pub arithmetic_number : Arithmetic → ℕ
+arithmetic_number ar.Mul = 0
+arithmetic_number ar.Div = 1
+arithmetic_number ar.Rem = 2
+arithmetic_number ar.Add = 3
+arithmetic_number ar.Sub = 4
+arithmetic_number ar.Shl = 5
+arithmetic_number ar.Shr = 6
+arithmetic_number ar.And = 7
+arithmetic_number ar.Xor = 8
+arithmetic_number ar.Or = 9
 
-abbrev pub arithmetic_number : Arithmetic → ℤ
-arithmetic_number ar.Mul = pos 0
-arithmetic_number ar.Div = pos 1
-arithmetic_number ar.Rem = pos 2
-arithmetic_number ar.Add = pos 3
-arithmetic_number ar.Sub = pos 4
-arithmetic_number ar.Shl = pos 5
-arithmetic_number ar.Shr = pos 6
-arithmetic_number ar.And = pos 7
-arithmetic_number ar.Xor = pos 8
-arithmetic_number ar.Or = pos 9
+abbrev pub comparison_number : Comparison → ℕ
+comparison_number cmp.Less = 0
+comparison_number cmp.AtMost = 1
+comparison_number cmp.Greater = 2
+comparison_number cmp.AtLeast = 3
+comparison_number cmp.Equal = 4
+comparison_number cmp.NotEqual = 5
 
-abbrev pub comparison_number : Comparison → ℤ
-comparison_number cmp.Less = pos 0
-comparison_number cmp.AtMost = pos 1
-comparison_number cmp.Greater = pos 2
-comparison_number cmp.AtLeast = pos 3
-comparison_number cmp.Equal = pos 4
-comparison_number cmp.NotEqual = pos 5
+-- ---- heads
 
-abbrev pub head_numbers : Head → List ℤ
-head_numbers (h.Number z) = pos 0 ∷ z ∷ []
-head_numbers h.Null = pos 1 ∷ []
-head_numbers (h.Name x) = pos 2 ∷ pos x ∷ []
-head_numbers (h.Call f) = pos 3 ∷ pos f ∷ []
-head_numbers h.Result = pos 4 ∷ []
-head_numbers (h.At l) = pos 5 ∷ label_number l ∷ []
-head_numbers (h.Variable x) = pos 6 ∷ variable_number x
-head_numbers h.Pointed = pos 7 ∷ []
-head_numbers (h.Field n o) = pos 8 ∷ pos n ∷ pos o ∷ []
-head_numbers (h.Element n c) = pos 9 ∷ pos n ∷ pos c ∷ []
-head_numbers (h.Elements n c) = pos 10 ∷ pos n ∷ pos c ∷ []
-head_numbers (h.Behind n) = pos 11 ∷ pos n ∷ []
-head_numbers (h.Read c l) = pos 12 ∷ (content_number c ++ label_numbers l)
-head_numbers h.Address = pos 13 ∷ []
-head_numbers (h.Moved m n) = pos 14 ∷ flag m ∷ pos n ∷ []
-head_numbers (h.Difference n) = pos 15 ∷ pos n ∷ []
-head_numbers h.Negate = pos 16 ∷ []
-head_numbers h.Complement = pos 17 ∷ []
-head_numbers (h.Arithmetic o) = pos 18 ∷ arithmetic_number o ∷ []
-head_numbers (h.Convert k) = pos 19 ∷ kind_number k ∷ []
-head_numbers (h.Compare c) = pos 20 ∷ comparison_number c ∷ []
-head_numbers (h.ComparePointers c) = pos 21 ∷ comparison_number c ∷ []
-head_numbers h.Not = pos 22 ∷ []
-head_numbers h.And = pos 23 ∷ []
-head_numbers h.Or = pos 24 ∷ []
-head_numbers h.Xor = pos 25 ∷ []
-head_numbers h.Implies = pos 26 ∷ []
-head_numbers h.Iff = pos 27 ∷ []
-head_numbers h.Choose = pos 28 ∷ []
-head_numbers h.Chain = pos 29 ∷ []
-head_numbers (h.Link c) = pos 30 ∷ comparison_number c ∷ []
-head_numbers (h.LinkPointers c) = pos 31 ∷ comparison_number c ∷ []
-head_numbers h.Let = pos 32 ∷ []
-head_numbers (h.Every g) = pos 33 ∷ range_number g
-head_numbers (h.Some g) = pos 34 ∷ range_number g
-head_numbers (h.Valid c w) = pos 35 ∷ (content_number c ++ flag w ∷ [])
-head_numbers h.Separated = pos 36 ∷ []
-head_numbers (h.Region c) = pos 37 ∷ content_number c
+-- a number of the head, and two of what stands in it
+pub record Key : Type 0 where
+  pub rank : ℕ
+  pub first : ℕ
+  pub second : ℕ
+
+abbrev pub key : (rank first second : ℕ) → Key
+key r a b = record { rank = r; first = a; second = b }
+
+abbrev pub variable_key : Variable → Key
+variable_key (variables.Global x) = key 6 0 x
+variable_key (variables.Local x) = key 6 1 x
+
+-- beside the number that stands in it, if there is one
+abbrev pub key_of : Head → Key
+key_of (h.Number z) = key 0 0 0
+key_of h.Null = key 1 0 0
+key_of (h.Name x) = key 2 x 0
+key_of (h.Call f) = key 3 f 0
+key_of h.Result = key 4 0 0
+key_of (h.At l) = key 5 (label_number l) 0
+key_of (h.Variable x) = variable_key x
+key_of h.Pointed = key 7 0 0
+key_of (h.Field n o) = key 8 n o
+key_of (h.Element n c) = key 9 n c
+key_of (h.Elements n c) = key 10 n c
+key_of (h.Behind n) = key 11 n 0
+key_of (h.Read c l) = key 12 (content_number c) (label_numbers l)
+key_of h.Address = key 13 0 0
+key_of (h.Moved m n) = key 14 (flag m) n
+key_of (h.Difference n) = key 15 n 0
+key_of h.Negate = key 16 0 0
+key_of h.Complement = key 17 0 0
+key_of (h.Arithmetic o) = key 18 (arithmetic_number o) 0
+key_of (h.Convert k) = key 19 (kind_place k) 0
+key_of (h.Compare c) = key 20 (comparison_number c) 0
+key_of (h.ComparePointers c) = key 21 (comparison_number c) 0
+key_of h.Not = key 22 0 0
+key_of h.And = key 23 0 0
+key_of h.Or = key 24 0 0
+key_of h.Xor = key 25 0 0
+key_of h.Implies = key 26 0 0
+key_of h.Iff = key 27 0 0
+key_of h.Choose = key 28 0 0
+key_of h.Chain = key 29 0 0
+key_of (h.Link c) = key 30 (comparison_number c) 0
+key_of (h.LinkPointers c) = key 31 (comparison_number c) 0
+key_of h.Let = key 32 0 0
+key_of (h.Every g) = key 33 (range_number g) 0
+key_of (h.Some g) = key 34 (range_number g) 0
+key_of (h.Valid c w) = key 35 (content_number c) (flag w)
+key_of h.Separated = key 36 0 0
+key_of (h.Region c) = key 37 (content_number c) 0
+
+abbrev pub number_in : Head → ℤ
+number_in (h.Number z) = z
+number_in head = pos 0
+
+abbrev pub same_key : Key → Key → Bool
+same_key k l = k.rank == l.rank && (k.first == l.first && k.second == l.second)
+
+abbrev pub same_head : Head → Head → Bool
+same_head f g = same_key (key_of f) (key_of g) && int_eq (number_in f) (number_in g)
 
 -- ---- equal trees
 
-abbrev pub same_numbers : List ℤ → List ℤ → Bool
-same_numbers [] [] = true
-same_numbers [] (z ∷ zs) = false
-same_numbers (y ∷ ys) [] = false
-same_numbers (y ∷ ys) (z ∷ zs) = int_eq y z && same_numbers ys zs
-
 abbrev mutual
   pub same_tree : Tree → Tree → Bool
-  same_tree (node f ks) (node g ms) = same_numbers (head_numbers f) (head_numbers g) && same_trees ks ms
+  same_tree (node f ks) (node g ms) = same_head f g && same_trees ks ms
 
   pub same_trees : Trees → Trees → Bool
   same_trees stop stop = true

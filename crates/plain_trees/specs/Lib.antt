@@ -1,0 +1,4 @@
+pub mod View
+pub mod Around
+pub mod Taking
+pub mod Laws

@@ -1,0 +1,4 @@
+mod Gathering
+mod Loops
+mod Comparing
+mod Functions_at

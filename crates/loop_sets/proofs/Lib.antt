@@ -1,0 +1,2 @@
+pub mod RegionTrees
+pub mod Standing

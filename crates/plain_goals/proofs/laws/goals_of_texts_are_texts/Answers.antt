@@ -1,0 +1,5 @@
+use Rattle.plain_goals.proofs.laws.goals_of_texts_are_texts.Goals as goal
+use Rattle.plain_goals.proofs.Whole as proof
+
+pub returns : goal.returns
+returns c = proof.goals_of_texts_are_texts

@@ -1,0 +1,5 @@
+use Rattle.plain_goals.proofs.laws.valid_goals_of_texts_run_well.Goals as goal
+use Rattle.plain_goals.proofs.Whole as proof
+
+pub returns : goal.returns
+returns c = proof.valid_goals_of_texts_run_well

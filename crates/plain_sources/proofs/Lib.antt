@@ -1,0 +1,3 @@
+pub mod Verified
+pub mod Greatest
+mod Found

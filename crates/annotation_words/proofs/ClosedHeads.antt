@@ -1,5 +1,5 @@
 -- What becomes of an annotation over closed terms is closed: an induction over its tree.
-use Rattle.std.proofs.Common.{◌≡◌, ℕ, zero, suc, ◌+◌, ◌-◌, ◌==◌, Bool, true, false, ◌&&◌, if◌then◌else◌, ℤ, pos, List, [], ◌∷◌, ◌++◌, length, map, refl, sym, ap, ◌∙◌, subst}
+use Rattle.std.proofs.Common.{◌≡◌, ℕ, zero, suc, ◌+◌, ◌-◌, ◌==◌, Bool, true, false, ◌&&◌, if◌then◌else◌, pos, List, [], ◌∷◌, length, refl, subst}
 use Rattle.std.specs.Prelude.{Option, Some, None}
 use Rattle.std.specs.Option.{option_map}
 use Rattle.wp_base.specs.declared.kinds.Kind.{Kind}
@@ -8,7 +8,6 @@ use Rattle.wp_base.specs.declared.kinds.CellKind.TheVariants as cell
 use Rattle.c_kinds.specs.declared.models.Machdep.{Machdep}
 use Rattle.c_kinds.specs.Conversions.{holds_all}
 use Rattle.typed_prog.specs.declared.operators.Variable.TheVariants as variables
-use Rattle.acsl_trees.specs.declared.heads.Content.{Content}
 use Rattle.acsl_trees.specs.declared.heads.Label.{Label}
 use Rattle.acsl_trees.specs.declared.heads.Label.TheVariants as label
 use Rattle.acsl_trees.specs.declared.heads.Range.{Range}
@@ -21,7 +20,7 @@ use Rattle.qed_terms.specs.declared.head.Head.TheVariants as th
 use Rattle.qed_terms.specs.declared.head.TermOp.TheVariants as op
 use Rattle.qed_terms.specs.Tree as tree
 use Rattle.qed_terms.specs.Tree.{Tree as Term, num, var}
-use Rattle.program_steps.specs.Leaves.{is_marked, is_closed}
+use Rattle.program_steps.specs.Leaves.{is_marked}
 use Rattle.acsl_encode.specs.Readings.{Named, one, two, Global, integer_global, pointer_global, Called, Terms, integer, truth, address, variable, elements, region}
 use Rattle.acsl_encode.specs.Readings.{nothing, Pointer, Slot, whole, any_integer, pointer, home, absent, Seen, Reading, seen_at, seen_in, moved_to}
 use Rattle.acsl_encode.specs.Encode as encode
@@ -29,7 +28,7 @@ use Rattle.acsl_encode.specs.Encode.{as_integer, as_formula, as_pointer, with_on
 use Rattle.acsl_encode.specs.Encode.{Names, with_name, Kids, Ends, ends_of, kind_of, over, quantified, body_of, node_terms, encoded, all_encoded, binders, no_names}
 use Rattle.acsl_encode.specs.Encode.{terms_of, term_of, formula_of}
 use Rattle.acsl_encode.specs.Meaning.{Holds}
-use Rattle.annotation_words.specs.Closed.{IsClosed, PointerClosed, TermsClosed, SlotClosed, SeenClosed, AreMarked, ReadingClosed}
+use Rattle.annotation_words.specs.Closed.{IsClosed, PointerClosed, TermsClosed, SlotClosed, SeenClosed, ReadingClosed}
 use Rattle.annotation_words.proofs.Closing.{one_more, anywhere, bound_closed, terms_more, terms_anywhere, AllClosed, one_kid, two_kids, three_kids, all_closed}
 use Rattle.annotation_words.proofs.Closing.{both_closed, all_of_closed, comparison_closed, pointers_closed, times_closed, further_closed, moved_closed}
 use Rattle.annotation_words.proofs.Closing.{difference_closed, integer_closed, formula_closed, pointer_closed, on_one, on_two, reached_closed, variable_closed}

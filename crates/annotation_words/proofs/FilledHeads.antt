@@ -1,5 +1,5 @@
 -- Filling commutes with each head of an annotation, and with calls, chains, validity and regions.
-use Rattle.std.proofs.Common.{◌≡◌, ℕ, zero, suc, ◌==◌, Bool, true, false, if◌then◌else◌, ℤ, pos, List, [], ◌∷◌, ◌++◌, length, map, refl, sym, ap, ◌∙◌}
+use Rattle.std.proofs.Common.{◌≡◌, ℕ, suc, ◌==◌, Bool, true, false, if◌then◌else◌, pos, List, [], ◌∷◌, length, map, refl, sym, ap, ◌∙◌}
 use Rattle.std.specs.Prelude.{Option, Some, None}
 use Rattle.std.specs.Option.{option_map}
 use Rattle.std.proofs.lemmas.List.{map-append}
@@ -15,8 +15,7 @@ use Rattle.acsl_trees.specs.declared.heads.Head.{Head}
 use Rattle.acsl_trees.specs.declared.heads.Head.TheVariants as hd
 use Rattle.qed_terms.specs.declared.head.Head.TheVariants as th
 use Rattle.qed_terms.specs.declared.head.TermOp.TheVariants as op
-use Rattle.qed_terms.specs.declared.head.Sort.TheVariants as sort
-use Rattle.qed_terms.specs.Tree.{Tree as Term, node, stop, num, var, imp_of, and_of, or_of, not_of}
+use Rattle.qed_terms.specs.Tree.{Tree as Term, node, num, var, imp_of, and_of, or_of, not_of}
 use Rattle.walk_steps.specs.Forms.{Slots}
 use Rattle.program_steps.specs.Leaves.{fill, as_integer as or_zero, slot_named, is_marked}
 use Rattle.acsl_encode.specs.Readings.{Named, one, two, Global, integer_global, pointer_global, Called, Terms, integer, truth, address, variable, elements}

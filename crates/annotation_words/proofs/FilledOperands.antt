@@ -1,13 +1,11 @@
 -- Filling commutes with what annotations make of terms and pointers.
-use Rattle.std.proofs.Common.{◌≡◌, ℕ, zero, suc, ◌==◌, ◌-◌, Bool, true, false, ◌&&◌, if◌then◌else◌, ℤ, pos, List, [], ◌∷◌, ◌++◌, length, map, refl, sym, ap, ◌∙◌}
-use Rattle.std.specs.Prelude.{◌+ℤ◌, Option, Some, None}
+use Rattle.std.proofs.Common.{◌≡◌, ℕ, zero, suc, ◌==◌, ◌-◌, Bool, true, false, if◌then◌else◌, pos, List, [], ◌∷◌, length, map, refl, sym, ap, ◌∙◌}
+use Rattle.std.specs.Prelude.{Option, Some, None}
 use Rattle.std.specs.Option.{option_map}
 use Rattle.std.proofs.lemmas.List.{length-map}
 use Rattle.wp_base.specs.declared.kinds.Kind.{Kind}
 use Rattle.wp_base.specs.declared.kinds.Kind.TheVariants as kind
-use Rattle.wp_base.specs.declared.kinds.CellKind.{CellKind}
 use Rattle.c_kinds.specs.declared.models.Machdep.{Machdep}
-use Rattle.c_kinds.specs.Models.{low, high}
 use Rattle.c_kinds.specs.Conversions.{holds_all}
 use Rattle.typed_prog.specs.declared.operators.Variable.{Variable}
 use Rattle.typed_prog.specs.declared.operators.Comparison.{Comparison}
@@ -18,7 +16,7 @@ use Rattle.acsl_trees.specs.declared.heads.Range.{Range}
 use Rattle.acsl_trees.specs.declared.heads.Range.TheVariants as range
 use Rattle.qed_terms.specs.declared.head.Head.TheVariants as th
 use Rattle.qed_terms.specs.declared.head.TermOp.TheVariants as op
-use Rattle.qed_terms.specs.Tree.{Tree as Term, Trees, node, stop, more, trees_of, num, ite}
+use Rattle.qed_terms.specs.Tree.{Tree as Term, node, more, trees_of, num, ite}
 use Rattle.walk_steps.specs.Forms.{Slots}
 use Rattle.program_steps.specs.Leaves.{fill, fill_all}
 use Rattle.acsl_encode.specs.Readings.{Terms, integer, truth, address, variable, elements, region, nothing, Pointer, at, Slot, whole, any_integer, pointer, home, absent, Seen}

@@ -1,6 +1,5 @@
 -- Filling commutes with what becomes of an annotation: an induction over its tree.
-use Rattle.std.proofs.Common.{◌≡◌, ℕ, zero, suc, ◌+◌, ◌==◌, Bool, true, false, ◌&&◌, if◌then◌else◌, List, [], ◌∷◌, length, map, refl, sym, ap, ◌∙◌}
-use Rattle.std.specs.Prelude.{Option, Some, None}
+use Rattle.std.proofs.Common.{◌≡◌, ℕ, suc, ◌+◌, ◌==◌, Bool, true, false, if◌then◌else◌, List, ◌∷◌, map, refl, sym, ap, ◌∙◌}
 use Rattle.std.specs.Option.{option_map}
 use Rattle.acsl_trees.specs.declared.heads.Label.{Label}
 use Rattle.acsl_trees.specs.declared.heads.Label.TheVariants as label
@@ -11,7 +10,7 @@ use Rattle.acsl_trees.specs.Tree.{Tree, Trees, node, stop, more}
 use Rattle.acsl_truth.specs.Truth.{heads_of}
 use Rattle.qed_terms.specs.declared.head.Head.{Head as TermHead}
 use Rattle.qed_terms.specs.declared.head.Head.TheVariants as th
-use Rattle.qed_terms.specs.Tree.{Tree as Term, var, false_tree}
+use Rattle.qed_terms.specs.Tree.{Tree as Term, var}
 use Rattle.walk_steps.specs.Forms.{Slots}
 use Rattle.program_steps.specs.Leaves.{fill, is_marked}
 use Rattle.acsl_encode.specs.Readings.{Terms, integer, truth, Reading, moved_to}
@@ -19,7 +18,6 @@ use Rattle.acsl_encode.specs.Encode as encode
 use Rattle.acsl_encode.specs.Encode.{as_integer, as_formula, first, last_of, Kids, Names, with_name, Ends, ends_of, kind_of, over, quantified, body_of}
 use Rattle.acsl_encode.specs.Encode.{node_terms, own_binders, content_cells, encoded, all_encoded, binders, no_names, terms_of, term_of, formula_of}
 use Rattle.annotation_words.specs.Filled.{fill_terms, filled}
-use Rattle.annotation_words.specs.Claims.{claimed}
 use Rattle.annotation_words.proofs.FilledOperands.{kid_filled, last_filled, integer_filled, formula_filled, two_filled, fill_ends, ends_filled}
 use Rattle.annotation_words.proofs.FilledHeads.{applied_filled, called_filled, chain_filled, binder_filled, valid_filled, region_filled, separated_filled}
 

@@ -1,5 +1,5 @@
 -- Readings over leaves: they are closed, and filled they are those over the slots of states.
-use Rattle.std.proofs.Common.{◌≡◌, ℕ, zero, suc, ◌+◌, ◌==◌, Bool, true, false, not, ◌||◌, if◌then◌else◌, ℤ, pos, List, [], ◌∷◌, ◌++◌, length, slice_get, refl, sym, ap, ◌∙◌}
+use Rattle.std.proofs.Common.{◌≡◌, ℕ, zero, suc, ◌+◌, ◌==◌, Bool, true, false, not, ◌||◌, if◌then◌else◌, pos, List, [], ◌∷◌, ◌++◌, length, slice_get, refl, ap, ◌∙◌}
 use Rattle.std.specs.Prelude.{Option, Some, None}
 use Rattle.std.specs.Option.{option_map}
 use Rattle.std.specs.List.{list_any}
@@ -7,7 +7,7 @@ use Rattle.std.specs.Str.{bytes_eq}
 use Rattle.typed_prog.specs.declared.operators.Variable.{Variable}
 use Rattle.typed_prog.specs.declared.operators.Variable.TheVariants as variables
 use Rattle.acsl_trees.specs.Tree as acsl
-use Rattle.qed_terms.specs.Tree.{Tree, num, var, false_tree, stop}
+use Rattle.qed_terms.specs.Tree.{Tree, num, var}
 use Rattle.qed_terms.specs.Fresh.{numeral}
 use Rattle.c_runs.specs.Program as program
 use Rattle.c_runs.specs.Program.{Facts}
@@ -17,17 +17,17 @@ use Rattle.plain_states.specs.Scopes.{kind_of}
 use Rattle.plain_runs.specs.Fitting.{Shape, sizes}
 use Rattle.walk_steps.specs.State.{at_or}
 use Rattle.walk_steps.specs.Forms.{Slots}
-use Rattle.program_steps.specs.Leaves.{after_as, leaf_name, leaf, item_named, slot_named, as_integer, is_marked, fill, is_closed, or_false, closed}
+use Rattle.program_steps.specs.Leaves.{after_as, leaf_name, leaf, slot_named, as_integer, is_marked, fill, or_false, closed}
 use Rattle.program_steps.specs.Terms as terms
-use Rattle.program_steps.specs.Terms.{Texts, global_slot, local_slot, slot_of, common_of, body_reading, return_reading, or_none, claim_tree}
+use Rattle.program_steps.specs.Terms.{Texts, held_in, global_slot, local_slot, slot_of, common_of, body_reading, return_reading, or_none, claim_tree}
 use Rattle.program_steps.proofs.Listing.{slot_leaf}
-use Rattle.acsl_encode.specs.Readings.{Slot, whole, absent, Seen, Reading, Common, integer}
-use Rattle.acsl_encode.specs.Binders.{Spelled, spelled_at, bound_before, binder_name, numbered}
+use Rattle.acsl_encode.specs.Readings.{whole, any_integer, Reading, integer}
+use Rattle.acsl_encode.specs.Binders.{Spelled, spelled_at, bound_before, numbered}
 use Rattle.acsl_encode.specs.Encode.{formula_of}
-use Rattle.annotation_words.specs.Seen.{slot_term, of_kind, variable_slot, in_slots, seen_over, hidden_block, common_with}
-use Rattle.annotation_words.specs.Bodies.{slots_seen, body_over, return_over}
+use Rattle.annotation_words.specs.Seen.{slot_term, of_kind, of_local, variable_slot, in_slots, seen_over, hidden_block, common_with}
+use Rattle.annotation_words.specs.Bodies.{body_over, return_over}
 use Rattle.annotation_words.specs.Claims.{claimed}
-use Rattle.annotation_words.specs.Closed.{IsClosed, SlotClosed, SeenClosed, AreMarked, ReadingClosed}
+use Rattle.annotation_words.specs.Closed.{IsClosed, SlotClosed, SeenClosed, ReadingClosed}
 use Rattle.annotation_words.specs.Filled.{fill_slot, fill_seen, filled}
 use Rattle.annotation_words.specs.Laws.{AnnotationsAreClosed, AnnotationsAreFilled}
 use Rattle.annotation_words.proofs.Filling.{formula_is_filled, number_is_filled}
@@ -43,7 +43,7 @@ leaf_unmarked : (l i : ℕ) → is_marked (leaf_name l i) ≡ false
 unfolding leaf_name
 leaf_unmarked l i = after_unmarked l (98 ∷ after_as i []) (after_unmarked i [] refl)
 
-leaf_closed : (xs : List (List ℕ)) (l i : ℕ) → IsClosed xs (leaf l i)
+pub leaf_closed : (xs : List (List ℕ)) (l i : ℕ) → IsClosed xs (leaf l i)
 leaf_closed xs l i = ap (λ b. not b || list_any (bytes_eq (leaf_name l i)) xs) (leaf_unmarked l i)
 
 mark_inside : (base rest : List ℕ) → is_marked (base ++ 33 ∷ rest) ≡ true
@@ -64,10 +64,24 @@ same_at d [] i = refl
 same_at d (x ∷ xs) zero = refl
 same_at d (x ∷ xs) (suc i) = same_at d xs i
 
-leaf_filled : (ss : List Slots) (l i : ℕ) → fill ss (leaf l i) ≡ slot_term (at_or [] ss l) i
+pub leaf_filled : (ss : List Slots) (l i : ℕ) → fill ss (leaf l i) ≡ slot_term (at_or [] ss l) i
 leaf_filled ss l i =
     ap (λ b. if b then var (leaf_name l i) else as_integer (slot_named (num (pos 0)) ss (leaf_name l i))) (leaf_unmarked l i)
     ∙ ap as_integer (slot_leaf (num (pos 0)) ss l i ∙ same_at (num (pos 0)) (at_or [] ss l) i)
+
+-- ---- variables that are declared with or without a value
+
+held_closed : (v : program.Variable) (t : Tree) → IsClosed [] t → SlotClosed (held_in v t)
+held_closed v t good = by v.has_value where
+  by : (b : Bool) → SlotClosed (if b then whole (kind_of v) t else any_integer t)
+  by true = good
+  by false = good
+
+held_filled : (ss : List Slots) (v : program.Variable) (t : Tree) → fill_slot ss (held_in v t) ≡ held_in v (fill ss t)
+held_filled ss v t = by v.has_value where
+  by : (b : Bool) → fill_slot ss (if b then whole (kind_of v) t else any_integer t) ≡ (if b then whole (kind_of v) (fill ss t) else any_integer (fill ss t))
+  by true = refl
+  by false = refl
 
 module _ (p : Facts) (s : Shape) where
   -- ---- states
@@ -77,7 +91,7 @@ module _ (p : Facts) (s : Shape) where
   global_closed l x None = tt
 
   local_closed : (l x : ℕ) (o : Option program.Variable) → SlotClosed (local_slot p s l x o)
-  local_closed l x (Some v) = leaf_closed [] l (local_value (sizes p s) x)
+  local_closed l x (Some v) = held_closed v (leaf l (local_value (sizes p s) x)) (leaf_closed [] l (local_value (sizes p s) x))
   local_closed l x None = tt
 
   slot_closed : (g l : ℕ) (x : Variable) → SlotClosed (slot_of p s g l x)
@@ -93,8 +107,9 @@ module _ (p : Facts) (s : Shape) where
     global_filled l x None = refl
 
     local_filled : (l x : ℕ) (o : Option program.Variable)
-        → fill_slot ss (local_slot p s l x o) ≡ of_kind o (slot_term (at_or [] ss l) (value_slot (length p.globals + x)))
-    local_filled l x (Some v) = ap (whole (kind_of v)) (leaf_filled ss l (local_value (sizes p s) x))
+        → fill_slot ss (local_slot p s l x o) ≡ of_local o (slot_term (at_or [] ss l) (value_slot (length p.globals + x)))
+    local_filled l x (Some v) =
+        held_filled ss v (leaf l (local_value (sizes p s) x)) ∙ ap (held_in v) (leaf_filled ss l (local_value (sizes p s) x))
     local_filled l x None = refl
 
     variable_filled : (g l : ℕ) (x : Variable)
@@ -112,7 +127,7 @@ module _ (p : Facts) (s : Shape) where
   hidden_same (variables.Local x) = refl
 
   module _ (texts : Texts) where
-    common_same : (a : acsl.Tree) → common_of p s texts a ≡ common_with p (texts.binders a)
+    pub common_same : (a : acsl.Tree) → common_of p s texts a ≡ common_with p (texts.binders a)
     common_same a = λ i. record {
       model = p.model;
       structs = (common_with p (texts.binders a)).structs;

@@ -1,5 +1,5 @@
 -- Readings whose terms may stand anywhere: no name in them is one that a quantifier binds, but for those that they bind themselves.
-use Rattle.std.specs.Prelude.{◌≡◌, ℕ, true, List, [], Option, Some, None}
+use Rattle.std.specs.Prelude.{◌≡◌, ℕ, true, List, []}
 use Rattle.wp_base.specs.declared.kinds.Kind.{Kind}
 use Rattle.typed_prog.specs.declared.operators.Variable.{Variable}
 use Rattle.qed_terms.specs.Tree.{Tree}

@@ -1,5 +1,5 @@
 -- What is so of the formulas of annotations over leaves and over the terms in slots.
-use Rattle.std.specs.Prelude.{◌≡◌, ℕ, List, [], Option, Some}
+use Rattle.std.specs.Prelude.{◌≡◌, ℕ, List, [], Some}
 use Rattle.std.specs.Option.{option_map}
 use Rattle.acsl_trees.specs.Tree as acsl
 use Rattle.c_runs.specs.Program.{Facts}

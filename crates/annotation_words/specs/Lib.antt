@@ -1,6 +1,9 @@
 pub mod Seen
+pub mod View
 pub mod Claims
 pub mod Filled
+pub mod Parts
+pub mod Encoded
 pub mod Closed
 pub mod Bodies
 pub mod Laws

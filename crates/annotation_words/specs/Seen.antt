@@ -1,5 +1,5 @@
 -- Annotations over the terms in the slots of states: those of the variables of the file come from one state, those of the function's from another one.
-use Rattle.std.specs.Prelude.{ℕ, zero, suc, ◌+◌, Bool, true, false, ℤ, pos, negsuc, List, [], ◌∷◌, length, Option, Some, None, slice_get}
+use Rattle.std.specs.Prelude.{ℕ, ◌+◌, Bool, true, false, ℤ, pos, negsuc, List, length, Option, Some, None, slice_get}
 use Rattle.typed_prog.specs.declared.operators.Variable.{Variable}
 use Rattle.typed_prog.specs.declared.operators.Variable.TheVariants as variables
 use Rattle.qed_terms.specs.Tree.{Tree, num}
@@ -12,7 +12,8 @@ use Rattle.plain_states.specs.Scopes.{kind_of}
 use Rattle.walk_steps.specs.State.{at_or}
 use Rattle.walk_steps.specs.Forms.{Slots}
 use Rattle.program_steps.specs.Leaves.{as_integer}
-use Rattle.acsl_encode.specs.Readings.{Slot, whole, absent, Seen, Terms, integer, nothing, Common}
+use Rattle.program_steps.specs.Terms.{held_in}
+use Rattle.acsl_encode.specs.Readings.{Slot, whole, absent, Seen, Terms, integer, Common}
 use Rattle.acsl_encode.specs.Binders.{Spelled, numbered}
 
 -- ---- slots
@@ -21,12 +22,17 @@ use Rattle.acsl_encode.specs.Binders.{Spelled, numbered}
 abbrev pub slot_term : Slots → (slot : ℕ) → Tree
 slot_term ts i = as_integer (at_or (num (pos 0)) ts i)
 
--- an integer of the variable's kind
+-- an integer of the variable's kind, as a variable of the file holds it
 abbrev pub of_kind : Option program.Variable → Tree → Slot
 of_kind (Some v) t = whole (kind_of v) t
 of_kind None t = absent
 
--- an argument stands for itself
+-- a variable of the function; one that is declared without a value may hold any integer until it is set
+abbrev pub of_local : Option program.Variable → Tree → Slot
+of_local (Some v) t = held_in v t
+of_local None t = absent
+
+-- an argument stands for itself, as an integer of the parameter's kind
 abbrev pub argument : Option program.Variable → Option Tree → Slot
 argument v (Some t) = of_kind v t
 argument v None = absent
@@ -42,7 +48,7 @@ module _ (p : Facts) where
   file_slot ts x = of_kind (slice_get p.globals x) (slot_term ts (value_slot x))
 
   abbrev pub in_slots : List program.Variable → Slots → Locals
-  in_slots vs ts x = of_kind (slice_get vs x) (slot_term ts (value_slot (length p.globals + x)))
+  in_slots vs ts x = of_local (slice_get vs x) (slot_term ts (value_slot (length p.globals + x)))
 
   abbrev pub in_arguments : List program.Variable → List Tree → Locals
   in_arguments vs ts x = argument (slice_get vs x) (slice_get ts x)

@@ -1,0 +1,9 @@
+pub mod Asking
+pub mod Moving
+pub mod Together
+pub mod Closedness
+pub mod Over
+pub mod Missing
+pub mod Given
+pub mod RegionTrees
+pub mod Putting

@@ -1,0 +1,17 @@
+use Rattle.std.proofs.Common.{◌≡◌, ◌++◌, ℕ, map, drop}
+use Rattle.wp_base.specs.declared.kinds.Kind.{Kind}
+use Rattle.qed_terms.specs.Meaning as sense
+use Rattle.qed_terms.specs.View.{formula_tree}
+use Rattle.step_walks.specs.View.{view_state}
+use Rattle.step_walks.specs.Walks.{states}
+use Rattle.walk_frames.specs.View.{facts_in, shape_in}
+use Rattle.function_walks.proofs.Requirements.{required_by}
+use Rattle.function_walks.proofs.known.put_behavior.Given as goal
+
+abbrev pub invariant-loop-claim : goal.invariant-loop-claim
+invariant-loop-claim g l =
+    (m : sense.World) (k : ℕ → Kind)
+    → map formula_tree l.known.items
+    ++ map (required_by m (facts_in l.frame) (shape_in l.frame k) (g.T.Texts.text l.texts) (states (view_state l.state)) l.is_plain l.behavior) (drop l.claim-index l.behavior.requires_)
+    ≡ map formula_tree l.fn.known.items
+    ++ map (required_by m (facts_in l.frame) (shape_in l.frame k) (g.T.Texts.text l.texts) (states (view_state l.state)) l.is_plain l.behavior) l.behavior.requires_

@@ -1,0 +1,8 @@
+use Rattle.std.proofs.Common.{◌≡◌, drop}
+use Rattle.std.specs.Option.{option_map}
+use Rattle.acsl_trees.specs.Tree.{view_trees}
+use Rattle.loop_words.specs.Sets as spec
+use Rattle.loop_walks.proofs.inside.lacks_some.Given as goal
+
+abbrev pub invariant-loop-region : goal.invariant-loop-region
+invariant-loop-region l = spec.lacks_some (option_map view_trees l.assigns) (view_trees (drop l.region-index l.regions)) ≡ spec.lacks_some (option_map view_trees l.assigns) (view_trees l.regions)

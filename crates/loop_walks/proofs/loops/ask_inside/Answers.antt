@@ -1,0 +1,21 @@
+use Rattle.c_runs.specs.Claims as broken
+use Rattle.core_trees.specs.View.{view_loop}
+use Rattle.program_steps.specs.Stops.{broken_place}
+use Rattle.program_trees.specs.View.{view_contract}
+use Rattle.step_walks.specs.View.{view_place}
+use Rattle.walk_frames.specs.View.{facts_in, shape_in, view_point}
+use Rattle.loop_words.specs.Sets.{inside_trees}
+use Rattle.loop_walks.proofs.Closed.{inside_closed}
+use Rattle.loop_walks.proofs.Passing.{at_place}
+use Rattle.loop_walks.proofs.loops.ask_inside.Goals as goal
+
+pub returns : goal.returns
+returns g c first m k os =
+    let p = facts_in c.args.frame in
+    let s = shape_in c.args.frame k in
+    let tx = g.T.Texts.text c.args.texts.now in
+    let d = view_contract c.args.frame.contract.now in
+    let pt = view_point c.args.frame os c.args.point in
+    let l = view_loop c.args.l.now in
+    at_place m (inside_trees p s tx d pt l) (view_place c.broken_place-place.result) (broken_place broken.assigns l.line) c.broken_place-place.ensures
+    (c.in_ok-ask_all.ensures first m c.args.frame.bases.now (inside_trees p s tx d pt l) (inside_closed p s tx d pt l) (c.in_ok-formulas.ensures k os))

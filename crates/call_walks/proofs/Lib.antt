@@ -1,0 +1,11 @@
+mod Said
+mod Levels
+mod Callees
+mod Demands
+mod Passing
+mod Found
+mod Named_in
+mod Turns
+mod Calling
+mod Parts
+mod Receiving

@@ -1,0 +1,5 @@
+pub mod View
+pub mod Claimed
+pub mod Sets
+pub mod Passed
+pub mod Known

@@ -1,0 +1,4 @@
+mod Branching
+mod Opening
+mod Single
+mod Storing

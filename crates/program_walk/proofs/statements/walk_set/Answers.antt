@@ -1,0 +1,8 @@
+use Rattle.qed_terms.specs.View.{term_tree}
+use Rattle.value_words.specs.View.{view_sizes}
+use Rattle.program_walk.proofs.Single.{set_after}
+use Rattle.program_walk.proofs.statements.walk_set.Goals as goal
+
+pub returns : goal.returns
+returns g c first m k closed =
+    set_after (c.in_ok-made.ensures first m k closed) (view_sizes c.sizes_in-sizes.result) c.sizes_in-sizes.ensures (term_tree c.in_ok-term.term) c.in_ok-term.ensures c.args.temporary c.in_ok-slot.slot c.in_ok-slot.ensures c.in_ok-set.ensures

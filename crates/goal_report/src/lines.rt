@@ -1,5 +1,5 @@
 // The lines around the goals.
-ghost use Rattle.std.specs.Prelude.{◌≡◌, ◌-◌, ◌++◌, ◌≤◌, IfOk, map};
+ghost use Rattle.std.specs.Prelude.{◌≡◌, ◌-◌, ◌++◌, IfOk, map};
 ghost use Rattle.goal_report.specs.Report as spec;
 
 use crate::pieces::{put, put_number};
@@ -46,7 +46,6 @@ pub fn put_ignored(text: &mut Vec<u8>, lines: &[Line]) -> Result<(), NoMemory>
 /// The last line: so many goals, and so many of them proved.
 #[tactic(auto, using(crate::proofs::Spelling::summary_line_put))]
 pub fn put_summary(text: &mut Vec<u8>, goals: u128, proved: u128) -> Result<(), NoMemory>
-    requires { proved ≤ goals }
     ensures { IfOk result (λ _. text.new.items ≡ text.old.items ++ spec.summary_line goals proved (goals - proved)) }
 {
     put(text, b"goals ")?;
@@ -54,6 +53,6 @@ pub fn put_summary(text: &mut Vec<u8>, goals: u128, proved: u128) -> Result<(), 
     put(text, b" proved ")?;
     put_number(text, proved)?;
     put(text, b" unknown ")?;
-    put_number(text, goals - proved)?;
+    put_number(text, goals.saturating_sub(proved))?;
     put(text, b"\n")
 }

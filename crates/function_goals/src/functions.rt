@@ -20,9 +20,9 @@ use wp_base::{List, NoMemory, Str};
 /// The goals of a function of a program, by its number; it has so many temporaries, and its slots have these base names.
 pub fn walk_function<'a, T: Texts, S: GoalSink>(
     alloc: Global,
-    program: &'a CheckedProgram<'a>,
+    program: &CheckedProgram<'a>,
     number: u32,
-    function: &'a CheckedFunction<'a>,
+    function: &CheckedFunction<'a>,
     temporaries: usize,
     bases: &'a List<Str>,
     texts: &T,

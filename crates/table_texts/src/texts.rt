@@ -13,11 +13,11 @@ use wp_base::Str;
 
 /// Binders have their names of a table, and no logic function calls itself (ACSL 2.6.3).
 #[derive(Clone, Copy)]
-pub struct TableTexts<'a> {
-    pub table: &'a Table<'a>,
+pub struct TableTexts<'t, 'a> {
+    pub table: &'t Table<'a>,
 }
 
-impl<'a> Texts for TableTexts<'a> {
+impl<'t, 'a> Texts for TableTexts<'t, 'a> {
     ghost text = { λ x. record { binders = named_in (view_table x.table.now); called = λ n. None } };
 
     fn binders<'b>(&'b self, tree: &Tree) -> &'b [Str] {

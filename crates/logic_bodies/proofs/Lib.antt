@@ -1,0 +1,4 @@
+pub mod Naming
+pub mod Given
+pub mod Bodies_made
+pub mod Encoded

@@ -1,0 +1,5 @@
+use Rattle.logic_sources.proofs.Verified.{verified_is_regular}
+use Rattle.logic_sources.proofs.laws.verified_is_regular.Goals as goal
+
+pub returns : goal.returns
+returns c = verified_is_regular

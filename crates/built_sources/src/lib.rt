@@ -1,0 +1,10 @@
+//! Floor 5, goals: whether what is read of a text is verified, by what is made of it.
+#![tactic(auto)]
+
+mod items;
+mod laws;
+mod tests;
+
+pub use items::item_at;
+pub use laws::tests_are_of_sources;
+pub use tests::is_built;

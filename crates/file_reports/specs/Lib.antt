@@ -1,0 +1,4 @@
+pub mod Bases
+pub mod Lines
+pub mod View
+pub mod Made

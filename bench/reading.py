@@ -1,9 +1,9 @@
 #!/usr/bin/env python3
-"""Measures the lexer on texts of a megabyte, or the way from bytes to a program on texts of up to 200,000 tokens, and
+"""Measures the lexer on texts of a megabyte, or the way from bytes to a typed file on texts of up to 200,000 tokens, and
 prints time and memory of each.
 
-Builds a small program around c_lexer, or around c_front, in a folder of its own, makes the texts, and runs the program
-on each, with 8 MB of stack. The program is proved first, as any. Run by hand: bench/reading.py tokens, or
+Builds a small program around c_lexer, or around c_typing and acsl_typing, in a folder of its own, makes the texts, and runs
+the program on each, with 8 MB of stack. The program is proved first, as any. Run by hand: bench/reading.py tokens, or
 bench/reading.py trees
 """
 import os
@@ -15,8 +15,8 @@ import time
 TOP = os.path.dirname(os.path.dirname(os.path.abspath(__file__)))
 LIMIT = 1048576
 MEMORY = [4, 8, 12, 16, 24, 32, 48, 64, 96, 128, 192, 256]
-LEXER = ["wp_base", "wp_io", "c_syntax", "c_lexer"]
-PARSER = ["name_table", "c_grammar", "parse_types", "parse_exprs", "parse_decls", "parse_terms", "parse_preds", "parse_clauses", "acsl_parser", "parse_leaf_stmts", "parse_stmts", "parse_file", "c_parser", "core_prog", "core_names", "c_core", "c_front"]
+LEXER = ["wp_io", "c_lexer"]
+TYPING = LEXER + ["c_kinds", "c_parser", "c_typing", "acsl_typing"]
 
 MAIN = r"""//! Reads a file, and tells by its status whether it is read whole.
 #![tactic(auto)]
@@ -72,7 +72,10 @@ READ_TOKENS = """fn read(alloc: Global, text: &[u8]) -> Result<(), Stop>
 READ_TREES = """fn read(alloc: Global, text: &[u8]) -> Result<(), Stop>
     requires { length text.now ≤ 1048576 }
 {
-    let _program = read_program(alloc, text)?;
+    let tokens = lex(alloc, text)?;
+    let program = parse(alloc, &tokens)?;
+    let typed = type_program(alloc, &program, Machdep::X86_64)?;
+    let _annotations = type_annots(alloc, &typed)?;
     Ok(())
 }
 """
@@ -140,11 +143,34 @@ TREES = {
 }
 
 
+def below(names):
+    """These crates and all that they stand on."""
+    stands = {}
+    for line in open(f"{TOP}/crates.txt"):
+        name, colon, others = line.partition("#")[0].partition(":")
+        if colon:
+            stands[name.split()[0]] = others.split()
+    found, left = [], list(names)
+    while left:
+        name = left.pop()
+        if name in stands and name not in found:
+            found.append(name)
+            left += stands[name]
+    return found
+
+
+USES = """use acsl_typing::type_annots;
+use c_kinds::Machdep;
+use c_lexer::lex;
+use c_parser::parse;
+use c_typing::type_program;"""
+
+
 def sources(trees):
     """The crates of the program, those that it names, and its text."""
     if not trees:
-        return LEXER, "wp_base wp_io c_lexer", MAIN.replace("USES", "use c_lexer::lex;") + READ_TOKENS
-    return LEXER + PARSER, "wp_base wp_io core_prog c_front", MAIN.replace("USES", "use c_front::read_program;") + READ_TREES
+        return below(LEXER), "wp_base wp_io c_lexer", MAIN.replace("USES", "use c_lexer::lex;") + READ_TOKENS
+    return below(TYPING), "wp_base " + " ".join(TYPING), MAIN.replace("USES", USES) + READ_TREES
 
 
 def build(room, trees):

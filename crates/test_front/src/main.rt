@@ -1,4 +1,4 @@
-//! Floor 8, tests: from bytes to trees and programs. For each line of the file that it is given it prints what the call that the heading above it names
+//! Floor 8, tests: from bytes to trees. For each line of the file that it is given it prints what the call that the heading above it names
 //! makes of the text: the tree, or the refusal. What it must print was written by the grammar.
 #![tactic(auto)]
 
@@ -9,7 +9,6 @@ mod exprs;
 mod names;
 mod places;
 mod preds;
-mod programs;
 mod readers;
 mod stmts;
 mod terms;

@@ -4,13 +4,13 @@ ghost use Rattle.std.specs.Prelude.{◌≤◌, length};
 use crate::decls::write_decls;
 use crate::exprs::{write_char, write_number};
 use crate::names::{punct_text, word_text};
-use crate::programs::write_core;
 use crate::told::tell_stop;
-use c_core::{Unmade, core_of};
-use c_front::read_program;
+use acsl_typing::type_annots;
 use c_kinds::Machdep;
+use c_lexer::lex;
 use c_parser::parse;
 use c_syntax::{Program, Token, TokenKind, Tokens};
+use c_typing::type_program;
 use std::alloc::Global;
 use test_lines::Page;
 use wp_base::Stop;
@@ -50,24 +50,11 @@ fn tell_program(page: &mut Page, answer: Result<Program, Stop>) {
     }
 }
 
-// The program tree of a program as spelled.
-fn tell_core(alloc: Global, page: &mut Page, answer: Result<Program, Stop>) {
-    match answer {
-        Ok(program) => match core_of(alloc, &program) {
-            Ok(core) => write_core(page, &core),
-            Err(Unmade::Unbuilt) => page.put(" unbuilt"),
-            Err(Unmade::NoMemory) => page.lack_memory(),
-        },
-        Err(stop) => tell_stop(page, stop),
-    }
-}
-
 /// Whether there is such a call over all tokens of a text.
 pub fn reads_all(alloc: Global, page: &mut Page, reader: &str, tokens: &Tokens) -> bool {
     match reader {
         "tokens" => tell_tokens(page, tokens),
         "count" => tell_count(page, tokens),
-        "core" => tell_core(alloc, page, parse(alloc, tokens)),
         "return" | "body" | "term" | "predicate" | "contract" | "file" => {
             tell_program(page, parse(alloc, tokens))
         }
@@ -76,14 +63,25 @@ pub fn reads_all(alloc: Global, page: &mut Page, reader: &str, tokens: &Tokens) 
     true
 }
 
-/// How many functions the program of a text has.
+// Reads a text and types it, its annotations too; how many declarations it has.
+fn typed_count(alloc: Global, text: &[u8]) -> Result<usize, Stop>
+    requires { length text.now ≤ 1048576 }
+{
+    let tokens = lex(alloc, text)?;
+    let program = parse(alloc, &tokens)?;
+    let typed = type_program(alloc, &program, Machdep::X86_64)?;
+    type_annots(alloc, &typed)?;
+    Ok(program.decls.as_slice().len())
+}
+
+/// How many declarations a text has that is read and typed.
 pub fn tell_front(alloc: Global, page: &mut Page, text: &[u8])
     requires { length text.now ≤ 1048576 }
 {
-    match read_program(alloc, Machdep::X86_64, text) {
-        Ok(core) => {
-            page.put(" functions ");
-            page.put_number(core.functions.len());
+    match typed_count(alloc, text) {
+        Ok(count) => {
+            page.put(" declarations ");
+            page.put_number(count);
         }
         Err(stop) => tell_stop(page, stop),
     }

@@ -1,8 +1,9 @@
 -- The answer to a text, from what its parts say.
-use Rattle.std.proofs.Common.{◌≡◌, ℕ, ◌<◌, ◌≤◌, Bool, true, false, List, length, refl, sym, subst, Option, Some, None, Result, Ok, Err, IfOk}
+use Rattle.std.proofs.Common.{◌≡◌, ℕ, ◌<◌, ◌≤◌, Bool, true, false, List, length, refl, sym, ap, ◌∙◌, subst, Option, Some, None, Result, Ok, Err, IfOk}
 use Rattle.std.specs.Prelude.{IfSome}
 use Rattle.wp_io.specs.Reads.{TakesMore}
 use Rattle.wp_base.specs.declared.memory.NoMemory.{NoMemory}
+use Rattle.wp_base.specs.declared.answers.Stop.{Stop}
 use Rattle.wp_base.specs.declared.answers.Stop.TheVariants as stop
 use Rattle.wp_base.specs.declared.answers.Refusal.{Refusal}
 use Rattle.wp_base.specs.declared.answers.Rule.TheVariants as rule
@@ -10,26 +11,46 @@ use Rattle.wp_base.specs.declared.answers.Status.{Status}
 use Rattle.wp_base.specs.declared.answers.Status.TheVariants as status
 use Rattle.c_kinds.specs.declared.models.Machdep.{Machdep}
 use Rattle.c_lexer.specs.Tokens.{most_bytes}
-use Rattle.core_prog.specs.Tree.{Program}
-use Rattle.c_front.specs.Text.{Spells}
+use Rattle.wp_base.specs.declared.kinds.Kind.{Kind}
+use Rattle.goal_report.specs.Report.{Reported, all_proved}
+use Rattle.plain_goals.specs.Laws.{IsMet}
+use Rattle.plain_sources.specs.Sources.{Source}
+use Rattle.plain_sources.specs.Built.{names_of}
+use Rattle.plain_sources.proofs.Verified.{verified_is_met}
+use Rattle.plain_front.specs.Text.{Spells}
+use Rattle.plain_front.specs.Text as front
+use Rattle.plain_reports.specs.Reports.{IsReportOf, report_of}
+use Rattle.file_reports.specs.declared.reports.FileReport.{FileReport}
+use Rattle.text_reports.specs.Answered.{TextAnswer}
 use Rattle.wp_words.specs.Command.{Wanted}
 use Rattle.wp_cli.specs.declared.answer.Answer.{Answer}
-use Rattle.wp_cli.specs.Report.{all_proved, report_text, refusal_line}
-use Rattle.wp_cli.specs.AnswerView.{status_of, ReportAnswers}
+use Rattle.wp_cli.specs.Report.{refusal_line}
+use Rattle.wp_cli.specs.AnswerView.{status_of}
 use Rattle.wp_cli.specs.Top.{AnswersFile}
 use Rattle.wp_cli.specs.Answers.{HasFault, too_long, Answers, proved, unknown, refused}
 
--- a report answers the text that spells the program
-pub report_answers : (m : Machdep) (wanted : Wanted) (text : List ℕ) (p : Program) (result : Status) (bytes : List ℕ) → length text ≤ most_bytes → Spells m text p → ReportAnswers wanted p result bytes → Answers m wanted text result bytes
-report_answers m wanted text p result bytes within spelled a = by (all_proved a.report) refl a.status
-  where
-    by : (b : Bool) → all_proved a.report ≡ b → result ≡ status_of b → Answers m wanted text result bytes
-    by true e s = subst (λ t. Answers m wanted text result t) (sym a.text) (subst (λ s. Answers m wanted text s (report_text a.report)) (sym s) (proved p a.report within spelled a.judged e))
-    by false e s = subst (λ t. Answers m wanted text result t) (sym a.text) (subst (λ s. Answers m wanted text s (report_text a.report)) (sym s) (unknown p a.report within spelled a.judged e))
+-- what is read of a text that spells it is met, with some kinds for its temporaries
+met : (m : Machdep) (text : List ℕ) (s : Source) → (h : Spells m text s) → (kinds : (function number : ℕ) → Kind) × IsMet m h.tokens s.tree s.typed s.annots (names_of s) kinds
+met m text s h = verified_is_met m h.tokens h.tree h.spelled.0 s h.spelled.1 h.is h.built
 
-pub report_answers_ok : (m : Machdep) (wanted : Wanted) (text : List ℕ) (p : Program) (r : Result Answer NoMemory) → length text ≤ most_bytes → Spells m text p → IfOk r (λ a. ReportAnswers wanted p a.status a.text) → IfOk r (λ a. Answers m wanted text a.status a.text)
-report_answers_ok m wanted text p (Ok a) within spelled h = report_answers m wanted text p a.status a.text within spelled h
-report_answers_ok m wanted text p (Err e) within spelled h = tt
+-- a report answers the text that spells its source
+pub report_answers : (m : Machdep) (wanted : Wanted) (text : List ℕ) (r : FileReport) (result : Status) (bytes : List ℕ) → length text ≤ most_bytes → TextAnswer m wanted text (Ok r)
+    → result ≡ status_of r.all_proved → bytes ≡ r.text → Answers m wanted text result bytes
+report_answers m wanted text r result bytes within h status_is bytes_are =
+    let s = h.0 in
+    let kinds = met m text s h.1 in
+    let made = h.2.1 m h.1.tokens kinds.0 kinds.1 in
+    let judged : IsReportOf m wanted s made.reported = record { tokens = h.1.tokens; kinds = kinds.0; met = kinds.1; judged = made.are } in
+    let same : bytes ≡ report_of s made.reported = bytes_are ∙ made.text_is in
+    by s made.reported h.1 judged same (all_proved made.reported) refl (status_is ∙ ap status_of made.all_is)
+  where
+    by : (s : Source) (rs : List Reported) → Spells m text s → IsReportOf m wanted s rs → bytes ≡ report_of s rs → (b : Bool) → all_proved rs ≡ b → result ≡ status_of b → Answers m wanted text result bytes
+    by s rs spelled judged same true e is = subst (λ t. Answers m wanted text result t) (sym same) (subst (λ x. Answers m wanted text x (report_of s rs)) (sym is) (proved s rs within spelled judged e))
+    by s rs spelled judged same false e is = subst (λ t. Answers m wanted text result t) (sym same) (subst (λ x. Answers m wanted text x (report_of s rs)) (sym is) (unknown s rs within spelled judged e))
+
+-- a text that was refused has that fault
+pub text_refused : (m : Machdep) (wanted : Wanted) (text : List ℕ) (end : Stop) (r : Refusal) → end ≡ stop.Refused r → TextAnswer m wanted text (Err end) → front.HasFault m text r
+text_refused m wanted text end r is h = subst (λ e. TextAnswer m wanted text (Err e)) is h
 
 -- a refusal answers a text with that fault
 pub refusal_answers : (m : Machdep) (wanted : Wanted) (text : List ℕ) (r : Refusal) (answer : Result Answer NoMemory) → IfOk answer (λ a. a.status ≡ status.Refused) → IfOk answer (λ a. a.text ≡ refusal_line r) → HasFault m text r → IfOk answer (λ a. Answers m wanted text a.status a.text)

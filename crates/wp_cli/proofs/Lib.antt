@@ -1,4 +1,3 @@
 pub mod Answering
 pub mod Claims
-pub mod Judging
 pub mod Lines

@@ -1,5 +1,4 @@
 pub mod Answers
 pub mod AnswerView
 pub mod Report
-pub mod ReportView
 pub mod Top

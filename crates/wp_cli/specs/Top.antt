@@ -1,5 +1,5 @@
 -- What a call of the program leaves, by its status.
-use Rattle.std.specs.Prelude.{◌≡◌, ◌⊎◌, ℕ, ◌≤◌, Bool, true, false, List, length, Option, Some, IfSome, slice_get, option_and_then}
+use Rattle.std.specs.Prelude.{◌≡◌, ◌⊎◌, ℕ, ◌≤◌, Bool, true, false, List, length, Option, Some, IfSome, option_and_then}
 use Rattle.std.specs.Io.KnownBytes.{Appends, IsAtEnd}
 use Rattle.wp_base.specs.declared.answers.Refusal.{Refusal}
 use Rattle.wp_base.specs.declared.answers.Status.{Status}
@@ -8,16 +8,14 @@ use Rattle.wp_io.specs.Reads.{TakesMore}
 use Rattle.wp_io.specs.Writes.{TakesFront}
 use Rattle.c_kinds.specs.declared.models.Machdep.{Machdep}
 use Rattle.c_lexer.specs.Tokens.{most_bytes}
-use Rattle.qed_terms.specs.declared.verdict.Verdict.TheVariants as verdict
-use Rattle.qed_terms.specs.Setting.{Valid}
-use Rattle.core_prog.specs.Tree.{Program, Function}
-use Rattle.c_front.specs.Text.{Spells}
-use Rattle.wp_calculus.specs.Machine.{IsCorrect}
-use Rattle.wp_calculus.specs.Goals.{Goal, goals, formula_of}
-use Rattle.wp_calculus.specs.Theorems.{plain_setting, IsExact}
-use Rattle.wp_cli.specs.Report.{Judged, Reported, all_proved, goals_proved, refusal_line, report_text}
+use Rattle.goal_report.specs.Report.{Reported, all_proved}
+use Rattle.plain_sources.specs.Sources.{Source}
+use Rattle.plain_front.specs.Text.{Spells}
+use Rattle.plain_reports.specs.Reports.{IsReportOf, report_of}
+use Rattle.plain_reports.specs.Claims.{Claims}
+use Rattle.wp_cli.specs.Report.{refusal_line}
 use Rattle.wp_words.specs.Command.{Wanted, file_named}
-use Rattle.wp_cli.specs.Answers.{Answers, HasFault, IsReportOf}
+use Rattle.wp_cli.specs.Answers.{Answers, HasFault}
 
 -- what the file that the words name holds, where the words are a command and that is told
 abbrev pub told : {Self : Type 0} → (Self → List ℕ → Option (List ℕ)) → Self → List (List ℕ) → Option (List ℕ)
@@ -53,28 +51,6 @@ pub record WritesFront (m : Machdep) (wanted : Wanted) (told before after : Opti
   pub answered : AnswersFile m wanted told result bytes
   pub written : TakesFront before after bytes
 
--- ---- what the report says of the program
-
--- each goal whose line reads proved is valid, whatever the other lines read
-abbrev pub ProvedGoalsAreValid : Program → List Reported → Type 0
-ProvedGoalsAreValid p rs = (i j : ℕ) (f : Function) (r : Reported) (g : Goal) (judged : Judged) → slice_get p i ≡ Some f → slice_get rs i ≡ Some r → slice_get (goals f) j ≡ Some g → slice_get r.goals j ≡ Some judged
-    → judged.verdict ≡ verdict.Proved → Valid plain_setting (formula_of g)
-
--- A function of which every goal is called proved is correct: from all arguments that meet its `requires`, and whatever its locals
--- hold before they are set, its run meets no undefined behaviour and no failed annotation and returns with its `ensures`.
-abbrev pub ProvedFunctionsAreCorrect : Program → List Reported → Type 0
-ProvedFunctionsAreCorrect p rs = (i : ℕ) (f : Function) (r : Reported) → slice_get p i ≡ Some f → slice_get rs i ≡ Some r → goals_proved r.goals ≡ true → IsCorrect f
-
--- the written goal of each line is valid exactly where no segment run fails at its check
-abbrev pub GoalsAreExactIn : Program → List Reported → Type 0
-GoalsAreExactIn p rs = (i j : ℕ) (f : Function) (g : Goal) → slice_get p i ≡ Some f → slice_get (goals f) j ≡ Some g → IsExact f j g
-
--- what a report says of its program
-pub record Claims (p : Program) (rs : List Reported) : Type 0 where
-  pub valid : ProvedGoalsAreValid p rs
-  pub correct : ProvedFunctionsAreCorrect p rs
-  pub exact : GoalsAreExactIn p rs
-
 -- ---- what was written
 
 -- The report of the program that the text spells was written whole, and what it claims of the program is so. `every`: each verdict in it is proved.
@@ -82,13 +58,13 @@ pub record WritesReport (m : Machdep) (wanted : Wanted) (told before after : Opt
   pub text : List ℕ
   pub read : IsRead told text
   pub within : length text ≤ most_bytes
-  pub program : Program
-  pub spelled : Spells m text program
+  pub source : Source
+  pub spelled : Spells m text source
   pub report : List Reported
-  pub judged : IsReportOf wanted program report
+  pub judged : IsReportOf m wanted source report
   pub all : all_proved report ≡ every
-  pub written : Appends before after (report_text report)
-  pub claims : Claims program report
+  pub written : Appends before after (report_of source report)
+  pub claims : Claims source judged.kinds report
 
 -- the line of the text's fault was written whole
 pub record WritesRefusal (m : Machdep) (told before after : Option (List ℕ)) : Type 0 where
@@ -117,5 +93,5 @@ IsAnswer _ = ⊥
 -- Each text is answered: one of the language by its report, a faulty one by its refusal, unless memory runs out.
 pub record IsAnsweredBy (m : Machdep) (text : List ℕ) (result : Status) : Type 0 where
   pub every : IsAnswer result ⊎ (result ≡ status.NoMemory)
-  pub spelled : (p : Program) → length text ≤ most_bytes → Spells m text p → ((result ≡ status.AllProved) ⊎ (result ≡ status.SomeUnknown)) ⊎ (result ≡ status.NoMemory)
+  pub spelled : (s : Source) → length text ≤ most_bytes → Spells m text s → ((result ≡ status.AllProved) ⊎ (result ≡ status.SomeUnknown)) ⊎ (result ≡ status.NoMemory)
   pub faulty : (r : Refusal) → HasFault m text r → (result ≡ status.Refused) ⊎ (result ≡ status.NoMemory)

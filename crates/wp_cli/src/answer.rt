@@ -1,23 +1,18 @@
 // The answer to a text.
-ghost use Rattle.std.specs.Prelude.{◌≡◌, ◌≤◌, ◌<◌, ℕ, Bool, List, IfOk, length, map};
-ghost use Rattle.core_prog.specs.View.{view_program};
-ghost use Rattle.c_lexer.specs.Tokens.{most_bytes};
+ghost use Rattle.std.specs.Prelude.{◌≡◌, ◌≤◌, ◌<◌, ℕ, List, IfOk, length};
 ghost use Rattle.c_kinds.specs.declared.models.Machdep.{Machdep as Model};
+ghost use Rattle.c_lexer.specs.Tokens.{most_bytes};
+ghost use Rattle.wp_cli.specs.AnswerView.{status_of};
+ghost use Rattle.wp_cli.specs.Answers.{Answers};
+ghost use Rattle.wp_cli.specs.Report as spec;
 ghost use Rattle.wp_words.specs.Command.{Wanted as Wishes};
 ghost use Rattle.wp_words.specs.CommandView.{view_wanted};
-ghost use Rattle.wp_cli.specs.Answers.{Answers};
-ghost use Rattle.wp_cli.specs.AnswerView.{ReportAnswers};
-ghost use Rattle.wp_cli.specs.Report as spec;
-ghost use Rattle.wp_cli.specs.ReportView.{view_function, view_goal};
 
 use crate::refusals::refusal_text;
-use crate::report::{FunctionReport, ReportGoal, report_text};
-use crate::verdicts::judge_program;
-use c_front::read_program;
 use c_kinds::Machdep;
-use core_prog::Core;
-use qed_terms::Verdict;
+use file_reports::FileReport;
 use std::alloc::Global;
+use text_reports::report_text;
 use wp_base::{NoMemory, Refusal, Rule, Status, Stop, Str};
 use wp_words::Wanted;
 
@@ -28,41 +23,20 @@ pub struct Answer {
     pub text: Str,
 }
 
-fn goals_proved(goals: &[ReportGoal]) -> bool
-    ensures { result ≡ spec.goals_proved (map view_goal goals.now) }
+// A report, with the status that goes with it.
+fn report_answer(report: FileReport) -> Answer
+    ensures status { result.status ≡ status_of report.all_proved }
+    ensures text { result.text ≡ report.text }
 {
-    for goal in goals {
-        if goal.verdict != Verdict::Proved {
-            return false;
-        }
-    }
-    true
-}
-
-// Whether every verdict is proved.
-fn all_proved(functions: &[FunctionReport]) -> bool
-    ensures { result ≡ spec.all_proved (map view_function functions.now) }
-{
-    for function in functions {
-        if !goals_proved(function.goals.as_slice()) {
-            return false;
-        }
-    }
-    true
-}
-
-// The report of a program, with its goals as they are wanted.
-fn report_answer(alloc: Global, core: &Core, wanted: Wanted) -> Result<Answer, NoMemory>
-    ensures { IfOk result (λ answer. ReportAnswers (view_wanted wanted) (view_program core.now) answer.status answer.text) }
-{
-    let judged = judge_program(alloc, core, wanted)?;
-    let text = report_text(alloc, &judged)?;
-    let status = if all_proved(judged.functions.as_slice()) {
+    let status = if report.all_proved {
         Status::AllProved
     } else {
         Status::SomeUnknown
     };
-    Ok(Answer { status, text })
+    Answer {
+        status,
+        text: report.text,
+    }
 }
 
 // The line that refuses a text.
@@ -102,8 +76,8 @@ pub fn text_answer(
     requires { length text.now ≤ most_bytes }
     ensures { IfOk result (λ answer. Answers model (view_wanted wanted) text.now answer.status answer.text) }
 {
-    match read_program(alloc, model, text) {
-        Ok(core) => report_answer(alloc, &core, wanted),
+    match report_text(alloc, model, text, wanted) {
+        Ok(report) => Ok(report_answer(report)),
         Err(Stop::Refused(refusal)) => refusal_answer(alloc, refusal),
         Err(Stop::NoMemory) => Err(NoMemory),
     }

@@ -4,9 +4,6 @@
 mod answer;
 mod pieces;
 mod refusals;
-mod report;
 mod top;
-mod verdicts;
 
-pub use report::{FunctionReport, Report, ReportGoal, report_text};
 pub use top::wp_main;

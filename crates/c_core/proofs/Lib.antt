@@ -1,2 +1,0 @@
-mod Making
-pub mod Joining

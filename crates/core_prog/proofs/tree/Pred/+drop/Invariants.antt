@@ -1,6 +1,0 @@
-use Rattle.std.proofs.Common.{◌≤◌}
-use Rattle.core_prog.proofs.tree.Pred.TheLaws.{the_size}
-use Rattle.core_prog.proofs.tree.Pred.+drop.Given as goal
-
-abbrev pub invariant-loop-self : goal.invariant-loop-self
-invariant-loop-self l = the_size l.self ≤ the_size l.fn.self

@@ -5,6 +5,7 @@ use Rattle.std.proofs.Math.Dec.{eqb-suc-zero}
 use Rattle.std.proofs.lemmas.Bool.{eqb-true, eq-eqb}
 use Rattle.std.proofs.lemmas.List.{take_more, take_all, map-append, length-append}
 use Rattle.std.proofs.lemmas.List.Sums.{sum_by-append, sum_by-cons}
+use Rattle.qed_terms.specs.Setting.{Setting}
 use Rattle.typed_unit.specs.Unit as u
 use Rattle.slot_names.specs.Bases.{Name}
 use Rattle.goal_report.specs.Report.{Judged, Reported, goal_lines, all_lines, all_goals, is_proved, goals_proved, all_proved, proved_in, unknown_in, hypothesis_lines, ignored_lines, summary_line, report_text}
@@ -31,37 +32,37 @@ goals_behind (x ∷ rs) r = ap (λ gs. x.goals ++ gs) (goals_behind rs r) ∙ sy
 proved_behind : (gs hs : List Judged) → proved_in (gs ++ hs) ≡ proved_in gs + proved_in hs
 proved_behind gs hs = sum_by-append (λ (g : Judged). cond (is_proved g.verdict) 1 0) gs hs
 
-behind : (wanted : Wanted) (t : u.Typed) (gs : List FunctionGoals) (g : FunctionGoals) (first mid last : Page) → FileLines wanted t gs first mid → BodyLines wanted t g mid last → FileLines wanted t (gs ++ g ∷ []) first last
-behind wanted t gs g first mid last done one =
+behind : (setting : Setting) (wanted : Wanted) (t : u.Typed) (gs : List FunctionGoals) (g : FunctionGoals) (first mid last : Page) → FileLines setting wanted t gs first mid → BodyLines setting wanted t g mid last → FileLines setting wanted t (gs ++ g ∷ []) first last
+behind setting wanted t gs g first mid last done one =
     let rs = done.reported in
     let r = one.reported in
     let count : length (all_goals (rs ++ r ∷ [])) ≡ length (all_goals rs) + length r.goals = ap (λ (xs : List Judged). length xs) (goals_behind rs r) ∙ length-append (all_goals rs) r.goals in
     let proved : proved_in (all_goals (rs ++ r ∷ [])) ≡ proved_in (all_goals rs) + proved_in r.goals = ap proved_in (goals_behind rs r) ∙ proved_behind (all_goals rs) r.goals in
     record {
       reported = rs ++ r ∷ [];
-      are = each_more (IsReported wanted t) gs rs g r done.are one.is;
+      are = each_more (IsReported setting wanted t) gs rs g r done.are one.is;
       text = one.text ∙ ap (λ x. x ++ goal_lines r.name 1 r.goals) done.text ∙ append_assoc first.text (all_lines rs) (goal_lines r.name 1 r.goals) ∙ ap (λ x. first.text ++ x) (sym (lines_behind rs r));
       goals = omega (arith, one.goals, done.goals, count);
       proved = omega (arith, one.proved, done.proved, proved);
     }
 
 -- no goals yet
-pub none_yet : (wanted : Wanted) (t : u.Typed) (p : Page) → FileLines wanted t [] p p
-none_yet wanted t p = record { reported = []; are = tt; text = sym (append-nil p.text); goals = omega arith; proved = omega arith }
+pub none_yet : (setting : Setting) (wanted : Wanted) (t : u.Typed) (p : Page) → FileLines setting wanted t [] p p
+none_yet setting wanted t p = record { reported = []; are = tt; text = sym (append-nil p.text); goals = omega arith; proved = omega arith }
 
 -- one more body's
-pub body_more : {A : Type 0} (wanted : Wanted) (t : u.Typed) (see : A → u.Body) (g : u.Body → FunctionGoals) (items : List A) (i : ℕ) (a : A) (first mid last : Page) → i < length items → a ≡ get_or items i a
-    → FileLines wanted t (map g (map see (take i items))) first mid → BodyLines wanted t (g (see a)) mid last → FileLines wanted t (map g (map see (take (i + 1) items))) first last
-body_more wanted t see g items i a first mid last within is done one =
+pub body_more : {A : Type 0} (setting : Setting) (wanted : Wanted) (t : u.Typed) (see : A → u.Body) (g : u.Body → FunctionGoals) (items : List A) (i : ℕ) (a : A) (first mid last : Page) → i < length items → a ≡ get_or items i a
+    → FileLines setting wanted t (map g (map see (take i items))) first mid → BodyLines setting wanted t (g (see a)) mid last → FileLines setting wanted t (map g (map see (take (i + 1) items))) first last
+body_more setting wanted t see g items i a first mid last within is done one =
     let front : map g (map see (take (i + 1) items)) ≡ map g (map see (take i items)) ++ g (see a) ∷ [] =
     ap (λ xs. map g (map see xs)) (take_more items i a within ∙ ap (λ z. take i items ++ z ∷ []) (sym is))
     ∙ ap (map g) (map-append see (take i items) (a ∷ [])) ∙ map-append g (map see (take i items)) (see a ∷ []) in
-    subst (λ gs. FileLines wanted t gs first last) (sym front) (behind wanted t (map g (map see (take i items))) (g (see a)) first mid last done one)
+    subst (λ gs. FileLines setting wanted t gs first last) (sym front) (behind setting wanted t (map g (map see (take i items))) (g (see a)) first mid last done one)
 
 -- all bodies'
-pub all_done : {A : Type 0} (wanted : Wanted) (t : u.Typed) (see : A → u.Body) (g : u.Body → FunctionGoals) (items : List A) (i : ℕ) (first last : Page) → length items ≤ i
-    → FileLines wanted t (map g (map see (take i items))) first last → FileLines wanted t (map g (map see items)) first last
-all_done wanted t see g items i first last over done = subst (λ xs. FileLines wanted t (map g (map see xs)) first last) (take_all i items over) done
+pub all_done : {A : Type 0} (setting : Setting) (wanted : Wanted) (t : u.Typed) (see : A → u.Body) (g : u.Body → FunctionGoals) (items : List A) (i : ℕ) (first last : Page) → length items ≤ i
+    → FileLines setting wanted t (map g (map see (take i items))) first last → FileLines setting wanted t (map g (map see items)) first last
+all_done setting wanted t see g items i first last over done = subst (λ xs. FileLines setting wanted t (map g (map see xs)) first last) (take_all i items over) done
 
 -- ---- the report
 
@@ -113,9 +114,9 @@ all_of [] = refl
 all_of (r ∷ rs) = proved_append r.goals (all_goals rs) ∙ ap (λ b. goals_proved r.goals && b) (all_of rs)
 
 -- the page with its last line
-pub whole_report : (wanted : Wanted) (t : u.Typed) (names : List Name) (lines : List ℕ) (gs : List FunctionGoals) (first last : Page) (text : List ℕ) (all : Bool) → first ≡ headed names lines
-    → FileLines wanted t gs first last → text ≡ last.text ++ summary_line last.goals last.proved (last.goals - last.proved) → all ≡ (last.goals == last.proved) → IsReport wanted t names lines gs text all
-whole_report wanted t names lines gs first last text all head done is so =
+pub whole_report : (setting : Setting) (wanted : Wanted) (t : u.Typed) (names : List Name) (lines : List ℕ) (gs : List FunctionGoals) (first last : Page) (text : List ℕ) (all : Bool) → first ≡ headed names lines
+    → FileLines setting wanted t gs first last → text ≡ last.text ++ summary_line last.goals last.proved (last.goals - last.proved) → all ≡ (last.goals == last.proved) → IsReport setting wanted t names lines gs text all
+whole_report setting wanted t names lines gs first last text all head done is so =
     let rs = done.reported in
     let js = all_goals rs in
     let none : first.goals ≡ 0 = ap (λ (p : Page). p.goals) head in

@@ -7,10 +7,10 @@ use Rattle.c_syntax.specs.Decl as d
 use Rattle.typed_unit.specs.Unit as u
 use Rattle.acsl_typing.specs.Annotations.{Annotations}
 use Rattle.from_lines.specs.Froms.{from_lines}
-use Rattle.plain_goals.specs.Files.{file_goals, names_in}
+use Rattle.plain_goals.specs.Files.{file_goals, names_in, setting_of_file}
 use Rattle.plain_goals.specs.Laws.{IsMet}
 use Rattle.plain_sources.specs.Sources.{Source}
-use Rattle.plain_sources.specs.Built.{names_of, is_built}
+use Rattle.logic_sources.specs.Built.{names_of, is_verified}
 use Rattle.wp_words.specs.Command.{Wanted}
 use Rattle.file_reports.specs.declared.reports.FileReport.{FileReport}
 use Rattle.file_reports.specs.Lines.{IsReport}
@@ -20,8 +20,8 @@ source_by p t a = record { tree = p; typed = t; annots = a }
 
 -- of a verified source its report, with whichever kinds for temporaries it is met; none of another
 abbrev pub Makes : Wanted → Source → Option FileReport → Type 0
-Makes wanted s None = is_built s ≡ false
+Makes wanted s None = is_verified s ≡ false
 Makes wanted s (Some r) =
-    (is_built s ≡ true)
+    (is_verified s ≡ true)
     × ((m : Machdep) (ts : List Token) (kinds : (function number : ℕ) → Kind) → IsMet m ts s.tree s.typed s.annots (names_of s) kinds
-    → IsReport wanted s.typed (names_in s.typed.file.globals) (from_lines s.tree) (file_goals s.typed s.annots (names_of s) kinds) r.text r.all_proved)
+    → IsReport (setting_of_file s.typed s.annots (names_of s)) wanted s.typed (names_in s.typed.file.globals) (from_lines s.tree) (file_goals s.typed s.annots (names_of s) kinds) r.text r.all_proved)

@@ -6,10 +6,11 @@ ghost use Rattle.file_reports.specs.Bases.{bases_by, body_bases_by};
 ghost use Rattle.file_reports.specs.Lines.{BodyLines, FileLines, LinesPut, function_goals_by};
 ghost use Rattle.file_reports.specs.View.{view_page};
 ghost use Rattle.goal_report.specs.Judging.{AreLines};
+ghost use Rattle.logic_texts.specs.Laws.{texts_by};
 ghost use Rattle.plain_reports.specs.Reports.{name_or_none, says};
 ghost use Rattle.plain_runs.specs.Fitting.{shape_of};
 ghost use Rattle.plain_words.specs.Temporaries as counted;
-ghost use Rattle.qed_terms.specs.Setting.{Setting};
+ghost use Rattle.qed_terms.specs.View.{view_setting};
 ghost use Rattle.source_goals.specs.Walked.{AllBodiesClosed, body_goals_by, file_goals_by};
 ghost use Rattle.typed_unit.specs.View.{view_body, view_typed};
 ghost use Rattle.walk_frames.specs.Words.{StepsClosed};
@@ -24,12 +25,11 @@ use c_scopes::Signature;
 use checked_trees::{CheckedFunction, CheckedProgram};
 use function_goals::walk_function;
 use goal_report::FunctionLines;
+use logic_texts::LogicTexts;
 use plain_sources::temporaries_in;
 use std::alloc::Global;
-use table_texts::TableTexts;
 use typed_unit::{Body, Typed};
 use wp_base::{List, NoMemory, Str};
-use wp_words::Wanted;
 
 // The name of a function by its number.
 fn name_at(alloc: Global, functions: &[Signature], number: u32) -> Result<Str, NoMemory>
@@ -42,7 +42,7 @@ fn name_at(alloc: Global, functions: &[Signature], number: u32) -> Result<Str, N
 }
 
 // The lines of the goals of a function, as they come from its walk.
-fn lines_of<'a>(
+fn lines_of<'a, 'o>(
     alloc: Global,
     program: &CheckedProgram<'a>,
     table: &Table<'_>,
@@ -51,11 +51,14 @@ fn lines_of<'a>(
     temporaries: usize,
     bases: &'a List<Str>,
     name: Str,
-    judge: Prover,
-) -> Result<FunctionLines<Prover>, NoMemory>
-    ensures { (setting : Setting) (k : ℕ → Kind) → StepsClosed (view_checked_program program.now).facts (shape_of (view_checked_function function.now) temporaries k) (view_checked_function function.now).body → IfOk result (λ lines. AreLines (says judge.model (view_wanted judge.wanted)) judge.wanted.shows_goals name (function_goals_by setting (view_checked_program program.now) (view_table table.now) number (view_checked_function function.now) temporaries k bases.now) lines.text.items lines.goals lines.proved) }
+    judge: Prover<'o>,
+) -> Result<FunctionLines<Prover<'o>>, NoMemory>
+    ensures { (k : ℕ → Kind) → StepsClosed (view_checked_program program.now).facts (shape_of (view_checked_function function.now) temporaries k) (view_checked_function function.now).body → IfOk result (λ lines. AreLines (says (view_setting judge.entry.order.now.setting) (view_wanted judge.entry.wanted)) judge.entry.wanted.shows_goals name (function_goals_by (view_setting judge.entry.order.now.setting) (view_checked_program program.now) (texts_by (view_table table.now) judge.entry.order.now) number (view_checked_function function.now) temporaries k bases.now) lines.text.items lines.goals lines.proved) }
 {
-    let texts = TableTexts { table };
+    let texts = LogicTexts {
+        table,
+        known: judge.order.called.as_slice(),
+    };
     let mut lines = FunctionLines {
         alloc,
         judge,
@@ -85,17 +88,13 @@ fn put_function<'a>(
     program: &CheckedProgram<'a>,
     table: &Table<'_>,
     bases: &'a List<Str>,
-    wanted: Wanted,
+    judge: Prover<'_>,
     number: u32,
     function: &CheckedFunction<'a>,
     page: &mut Page,
 ) -> Result<(), NoMemory>
-    ensures { (setting : Setting) (k : ℕ → Kind) → StepsClosed (view_checked_program program.now).facts (shape_of (view_checked_function function.now) (counted.temporaries_in (view_checked_function function.now).body) k) (view_checked_function function.now).body → IfOk result (λ _. LinesPut (view_wanted wanted) (view_typed typed.now) number (function_goals_by setting (view_checked_program program.now) (view_table table.now) number (view_checked_function function.now) (counted.temporaries_in (view_checked_function function.now).body) k bases.now) (view_page page.old) (view_page page.new)) }
+    ensures { (k : ℕ → Kind) → StepsClosed (view_checked_program program.now).facts (shape_of (view_checked_function function.now) (counted.temporaries_in (view_checked_function function.now).body) k) (view_checked_function function.now).body → IfOk result (λ _. LinesPut (view_setting judge.entry.order.now.setting) (view_wanted judge.entry.wanted) (view_typed typed.now) number (function_goals_by (view_setting judge.entry.order.now.setting) (view_checked_program program.now) (texts_by (view_table table.now) judge.entry.order.now) number (view_checked_function function.now) (counted.temporaries_in (view_checked_function function.now).body) k bases.now) (view_page page.old) (view_page page.new)) }
 {
-    let judge = Prover {
-        model: typed.model,
-        wanted,
-    };
     let name = name_at(alloc, typed.file.functions.as_slice(), number)?;
     let temporaries = temporaries_in(function.body.as_slice());
     let lines = lines_of(
@@ -120,17 +119,17 @@ fn put_body<'a>(
     table: &Table<'_>,
     file: &[Str],
     bases: &'a List<Str>,
-    wanted: Wanted,
+    judge: Prover<'_>,
     body: &Body<'_>,
     page: &mut Page,
 ) -> Result<(), NoMemory>
     requires { bases.now ≡ body_bases_by (view_typed typed.now) (view_checked_program program.now) file.now (view_body body.now) }
-    ensures { (setting : Setting) (kinds : (function number : ℕ) → Kind) → AllBodiesClosed (view_checked_program program.now) kinds → IfOk result (λ _. BodyLines (view_wanted wanted) (view_typed typed.now) (body_goals_by setting (view_typed typed.now) (view_checked_program program.now) (view_table table.now) file.now kinds (view_body body.now)) (view_page page.old) (view_page page.new)) }
+    ensures { (kinds : (function number : ℕ) → Kind) → AllBodiesClosed (view_checked_program program.now) kinds → IfOk result (λ _. BodyLines (view_setting judge.entry.order.now.setting) (view_wanted judge.entry.wanted) (view_typed typed.now) (body_goals_by (view_setting judge.entry.order.now.setting) (view_typed typed.now) (view_checked_program program.now) (texts_by (view_table table.now) judge.entry.order.now) file.now kinds (view_body body.now)) (view_page page.old) (view_page page.new)) }
 {
     let number = body.function;
     match item_at(program.functions.as_slice(), number) {
         Some(function) => put_function(
-            alloc, typed, program, table, bases, wanted, number, function, page,
+            alloc, typed, program, table, bases, judge, number, function, page,
         ),
         None => Ok(()),
     }
@@ -144,18 +143,18 @@ pub(crate) fn put_bodies<'a>(
     table: &Table<'_>,
     file: &[Str],
     bases: &'a [List<Str>],
-    wanted: Wanted,
+    judge: Prover<'_>,
     page: &mut Page,
 ) -> Result<(), NoMemory>
     requires { bases.now ≡ bases_by (view_typed typed.now) (view_checked_program program.now) file.now }
-    ensures { (setting : Setting) (kinds : (function number : ℕ) → Kind) → AllBodiesClosed (view_checked_program program.now) kinds → IfOk result (λ _. FileLines (view_wanted wanted) (view_typed typed.now) (file_goals_by setting (view_typed typed.now) (view_checked_program program.now) (view_table table.now) file.now kinds) (view_page page.old) (view_page page.new)) }
+    ensures { (kinds : (function number : ℕ) → Kind) → AllBodiesClosed (view_checked_program program.now) kinds → IfOk result (λ _. FileLines (view_setting judge.entry.order.now.setting) (view_wanted judge.entry.wanted) (view_typed typed.now) (file_goals_by (view_setting judge.entry.order.now.setting) (view_typed typed.now) (view_checked_program program.now) (texts_by (view_table table.now) judge.entry.order.now) file.now kinds) (view_page page.old) (view_page page.new)) }
 {
     let bodies = typed.bodies.as_slice();
     for index in 0..bodies.len() {
         let body = &bodies[index];
         let names = &bases[index];
         put_body(
-            alloc, typed, program, table, file, names, wanted, body, page,
+            alloc, typed, program, table, file, names, judge, body, page,
         )?;
     }
     Ok(())

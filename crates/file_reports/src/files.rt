@@ -14,10 +14,10 @@ ghost use Rattle.typed_unit.specs.View.{view_typed};
 ghost use Rattle.wp_words.specs.CommandView.{view_wanted};
 
 use crate::bases::all_bases;
+use crate::judges::Prover;
 use crate::reports::{FileReport, report_of};
 use acsl_typing::Annotations;
 use binder_tables::{Table, table_of};
-use built_sources::is_built;
 use c_syntax::Program as Spelled;
 use checked_trees::CheckedProgram;
 use checks_added::add_checks;
@@ -28,6 +28,7 @@ use plain_test::is_plain;
 use program_trees::Program;
 use std::alloc::Global;
 use typed_unit::Typed;
+use verified_sources::verified_order;
 use wp_base::{List, NoMemory, Str};
 use wp_words::Wanted;
 
@@ -46,11 +47,17 @@ fn of_parts<'a>(
     requires { bases.now ≡ bases_by (view_typed typed.now) (view_checked_program checked.now) file.now }
     ensures { (annots : Said) → view_program program.now ≡ files.program_of (view_typed typed.now) annots → view_checked_program checked.now ≡ core_of (view_typed typed.now) annots → view_table table.now ≡ tables.table_of (view_typed typed.now) (view_program program.now).functions → file.now ≡ names_in (view_typed typed.now).file.globals → IfOk result (λ made. Makes (view_wanted wanted) (source_by (syntax.view_program spelled.now) (view_typed typed.now) annots) made) }
 {
-    if !is_built(alloc, typed, program, checked, table, file)? {
-        return Ok(None);
+    match verified_order(alloc, typed, program, checked, table, file)? {
+        None => Ok(None),
+        Some(order) => {
+            let judge = Prover {
+                order: &order,
+                wanted,
+            };
+            let report = report_of(alloc, spelled, typed, checked, table, file, bases, judge)?;
+            Ok(Some(report))
+        }
     }
-    let report = report_of(alloc, spelled, typed, checked, table, file, bases, wanted)?;
-    Ok(Some(report))
 }
 
 // With the program that it is, and the names of its variables.

@@ -8,13 +8,15 @@ ghost use Rattle.file_reports.specs.Lines.{IsReport, headed};
 ghost use Rattle.file_reports.specs.View.{view_page};
 ghost use Rattle.from_lines.specs.Froms as froms;
 ghost use Rattle.goal_report.specs.Report.{summary_line};
-ghost use Rattle.qed_terms.specs.Setting.{Setting};
+ghost use Rattle.logic_texts.specs.Laws.{texts_by};
+ghost use Rattle.qed_terms.specs.View.{view_setting};
 ghost use Rattle.source_goals.specs.Walked.{AllBodiesClosed, file_goals_by};
 ghost use Rattle.typed_unit.specs.View.{view_typed};
 ghost use Rattle.wp_base.specs.declared.kinds.Kind.{Kind};
 ghost use Rattle.wp_words.specs.CommandView.{view_wanted};
 
 use crate::bodies::put_bodies;
+use crate::judges::Prover;
 use crate::pages::Page;
 use binder_tables::Table;
 use c_syntax::Program as Spelled;
@@ -24,7 +26,6 @@ use goal_report::{put_hypotheses, put_ignored, put_summary};
 use std::alloc::Global;
 use typed_unit::Typed;
 use wp_base::{List, NoMemory, Str};
-use wp_words::Wanted;
 
 /// The report of a file, and whether all its goals are proved.
 #[derive(Drop)]
@@ -72,12 +73,12 @@ pub(crate) fn report_of<'a>(
     table: &Table<'_>,
     file: &[Str],
     bases: &'a [List<Str>],
-    wanted: Wanted,
+    judge: Prover<'_>,
 ) -> Result<FileReport, NoMemory>
     requires { bases.now ≡ bases_by (view_typed typed.now) (view_checked_program program.now) file.now }
-    ensures { (setting : Setting) (kinds : (function number : ℕ) → Kind) → AllBodiesClosed (view_checked_program program.now) kinds → IfOk result (λ made. IsReport (view_wanted wanted) (view_typed typed.now) file.now (froms.from_lines (view_program spelled.now)) (file_goals_by setting (view_typed typed.now) (view_checked_program program.now) (view_table table.now) file.now kinds) made.text made.all_proved) }
+    ensures { (kinds : (function number : ℕ) → Kind) → AllBodiesClosed (view_checked_program program.now) kinds → IfOk result (λ made. IsReport (view_setting judge.entry.order.now.setting) (view_wanted judge.entry.wanted) (view_typed typed.now) file.now (froms.from_lines (view_program spelled.now)) (file_goals_by (view_setting judge.entry.order.now.setting) (view_typed typed.now) (view_checked_program program.now) (texts_by (view_table table.now) judge.entry.order.now) file.now kinds) made.text made.all_proved) }
 {
     let mut page = heading(alloc, spelled, file)?;
-    put_bodies(alloc, typed, program, table, file, bases, wanted, &mut page)?;
+    put_bodies(alloc, typed, program, table, file, bases, judge, &mut page)?;
     finished(page)
 }

@@ -13,12 +13,12 @@ use wp_base::Str;
 
 /// Binders have their names of a table, and these logic functions call themselves, by their numbers (ACSL 2.6.3).
 #[derive(Clone, Copy)]
-pub struct LogicTexts<'a> {
-    pub table: &'a Table<'a>,
-    pub known: &'a [Option<Called>],
+pub struct LogicTexts<'t, 'a> {
+    pub table: &'t Table<'a>,
+    pub known: &'t [Option<Called>],
 }
 
-impl<'a> Texts for LogicTexts<'a> {
+impl<'t, 'a> Texts for LogicTexts<'t, 'a> {
     ghost text = { λ x. record { binders = named_in (view_table x.table.now); called = called_in x.known.now } };
 
     fn binders<'b>(&'b self, tree: &Tree) -> &'b [Str] {

@@ -16,7 +16,7 @@ use Rattle.parse_file.proofs.Parts.{parts}
 use Rattle.c_kinds.specs.declared.models.Machdep.{Machdep}
 use Rattle.c_answers.specs.Answers.{Answer, Gives}
 use Rattle.plain_sources.specs.Sources.{Source, source_of}
-use Rattle.plain_sources.specs.Built.{is_built}
+use Rattle.logic_sources.specs.Built.{is_verified}
 use Rattle.plain_front.specs.Text.{Spells, HasFault, unlexed, unspelled, past, untyped, unbuilt, SpellsOrHasFault}
 
 same_tokens : (text : List ℕ) (ts us : List Token) → tokens_of text ≡ Ok ts → tokens_of text ≡ Ok us → ts ≡ us
@@ -55,7 +55,7 @@ no_fault m text p r s (unbuilt ts tree x e within types none) =
     let same = tree_once s.tokens ts s.tree tree (same_tokens text s.tokens ts s.lexed e) s.spelled within in
     let made : Ok p ≡ Ok x = sym s.is ∙ ap (source_of m) same ∙ types in
     let one : p ≡ x = cc in
-    let both : true ≡ false = sym s.built ∙ ap is_built one ∙ none in
+    let both : true ≡ false = sym s.built ∙ ap is_verified one ∙ none in
     absurd cc
 
 -- ---- one fault
@@ -134,12 +134,12 @@ one_fault m text r q (unbuilt ts tree ty e within types none) (untyped ts' tree'
 
 -- ---- a program or a fault
 
-by_made : (m : Machdep) (text : List ℕ) (ts : List Token) (tree : d.Program) (x : Source) → tokens_of text ≡ Ok ts → SpellsWithin ts tree → source_of m tree ≡ Ok x → (made : Bool) → is_built x ≡ made → SpellsOrHasFault m text
+by_made : (m : Machdep) (text : List ℕ) (ts : List Token) (tree : d.Program) (x : Source) → tokens_of text ≡ Ok ts → SpellsWithin ts tree → source_of m tree ≡ Ok x → (made : Bool) → is_verified x ≡ made → SpellsOrHasFault m text
 by_made m text ts tree x e within types true is = inl (x, record { tokens = ts; tree = tree; lexed = e; spelled = within; is = types; built = is })
 by_made m text ts tree x e within types false none = inr (record { rule = rule.Unbuilt; line = 1 }, unbuilt ts tree x e within types none)
 
 by_tree : (m : Machdep) (text : List ℕ) (ts : List Token) (tree : d.Program) → tokens_of text ≡ Ok ts → SpellsWithin ts tree → (given : Answer Source) → source_of m tree ≡ given → SpellsOrHasFault m text
-by_tree m text ts tree e within (Ok x) is = by_made m text ts tree x e within is (is_built x) refl
+by_tree m text ts tree e within (Ok x) is = by_made m text ts tree x e within is (is_verified x) refl
 by_tree m text ts tree e within (Err r) is = inr (r, untyped ts tree r e within is)
 
 by_outcome : (m : Machdep) (text : List ℕ) (ts : List Token) → tokens_of text ≡ Ok ts → (given : Outcome) → Says ts given → SpellsOrHasFault m text

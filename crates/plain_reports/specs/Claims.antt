@@ -18,7 +18,7 @@ use Rattle.goal_report.specs.Report.{Judged, Reported, goals_proved}
 use Rattle.plain_goals.specs.Files.{FunctionGoals, core_of, setting_of_file, file_goals}
 use Rattle.plain_goals.specs.Laws.{AreExact}
 use Rattle.plain_sources.specs.Sources.{Source}
-use Rattle.plain_sources.specs.Built.{names_of, is_built}
+use Rattle.logic_sources.specs.Built.{names_of}
 use Rattle.wp_words.specs.Command.{Wanted}
 use Rattle.plain_reports.specs.Reports.{IsReportOf}
 
@@ -57,4 +57,4 @@ module _ (s : Source) (kinds : (function number : ℕ) → Kind) (rs : List Repo
 
 -- what each report claims of its program is so
 abbrev pub ReportsClaim : Type 0
-ReportsClaim = (m : Machdep) (wanted : Wanted) (s : Source) (rs : List Reported) → is_built s ≡ true → (h : IsReportOf m wanted s rs) → Claims s h.kinds rs
+ReportsClaim = (m : Machdep) (wanted : Wanted) (s : Source) (rs : List Reported) (h : IsReportOf m wanted s rs) → Claims s h.kinds rs

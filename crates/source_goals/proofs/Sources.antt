@@ -1,5 +1,5 @@
--- The walks of a verified source's bodies pass on its goals.
-use Rattle.std.proofs.Common.{◌≡◌, ℕ, true, List, [], ◌∷◌, map, Option, Some, None, refl, sym, ap, ◌∙◌, subst}
+-- The walks of the bodies of a source that is met pass on its goals.
+use Rattle.std.proofs.Common.{◌≡◌, ℕ, List, [], ◌∷◌, map, Option, Some, None, refl, sym, ap, ◌∙◌, subst}
 use Rattle.wp_base.specs.declared.kinds.Kind.{Kind}
 use Rattle.typed_unit.specs.Unit as u
 use Rattle.c_runs.specs.Program.{Function}
@@ -7,16 +7,15 @@ use Rattle.core_checks.specs.Tree.{Steps}
 use Rattle.plain_runs.specs.Fitting.{shape_of, is_param}
 use Rattle.plain_words.specs.Temporaries.{temporaries_in}
 use Rattle.program_steps.specs.Temporaries.{no_temporaries}
-use Rattle.program_steps.specs.Terms.{Texts}
 use Rattle.walk_steps.specs.Walk.{Goal}
 use Rattle.program_goals.specs.Programs.{goals_of}
 use Rattle.slot_names.specs.Bases.{Name}
-use Rattle.plain_goals.specs.Files.{FunctionGoals, core_of, names_in, own_names, text_at, setting_of_file, texts_of_file, written_for, written_by, goals_at, body_goals, file_goals}
-use Rattle.plain_trees.proofs.Settings_plain.{settings_are_plain}
+use Rattle.plain_goals.specs.Files.{FunctionGoals, core_of, names_in, own_names, text_at, setting_of_file, written_for, written_by, goals_at, body_goals, file_goals}
 use Rattle.plain_sources.specs.Sources.{Source}
-use Rattle.plain_sources.specs.Built.{facts_in, table_in, names_of, first_names}
-use Rattle.plain_sources.proofs.Verified.{passes, names_are}
-use Rattle.source_goals.specs.Walked.{texts_by, goals_by, body_goals_by}
+use Rattle.plain_sources.specs.Built.{first_names}
+use Rattle.plain_sources.proofs.Verified.{names_are}
+use Rattle.logic_sources.specs.Built.{names_of, texts_in}
+use Rattle.source_goals.specs.Walked.{goals_by, body_goals_by}
 use Rattle.source_goals.specs.Laws.{WalksAreOfSources}
 use Rattle.source_goals.proofs.Closed.{steps_closed}
 
@@ -24,9 +23,9 @@ map_same : {X Y : Type 0} (f g : X → Y) → ((x : X) → f x ≡ g x) → (xs 
 map_same f g same [] = refl
 map_same f g same (x ∷ xs) = λ i. same x i ∷ map_same f g same xs i
 
-module _ (s : Source) (kinds : (function number : ℕ) → Kind) (texts : texts_of_file s.typed s.annots (names_of s) ≡ texts_by (table_in s)) where
+module _ (s : Source) (kinds : (function number : ℕ) → Kind) where
   goals_same : (n : ℕ) (o : Option (Function Steps)) → (core_of s.typed s.annots).functions n ≡ o
-      → goals_by (setting_of_file s.typed s.annots (names_of s)) s.typed (core_of s.typed s.annots) (table_in s) (names_in s.typed.file.globals) kinds n o
+      → goals_by (setting_of_file s.typed s.annots (names_of s)) s.typed (core_of s.typed s.annots) (texts_in s) (names_in s.typed.file.globals) kinds n o
       ≡ goals_at s.typed s.annots (names_of s) kinds n o
   goals_same n None e = refl
   goals_same n (Some f) e =
@@ -34,21 +33,19 @@ module _ (s : Source) (kinds : (function number : ℕ) → Kind) (texts : texts_
       let q = core_of s.typed s.annots in
       let file = names_in s.typed.file.globals in
       let own = names_are s n f e in
-      let one : goals_of setting q (texts_by (table_in s)) n f (written_for file (first_names n s.typed.bodies) f (kinds n))
-      ≡ goals_of setting q (texts_of_file s.typed s.annots (names_of s)) n f (written_for file (own_names (text_at s.typed s.annots n)) f (kinds n)) =
-      λ i. goals_of setting q (sym texts i) n f (written_for file (own i) f (kinds n)) in
-      one ∙ ap (λ o. goals_of setting q (texts_of_file s.typed s.annots (names_of s)) n f (written_by file (own_names (text_at s.typed s.annots n)) o (kinds n))) (sym e)
+      let one : goals_of setting q (texts_in s) n f (written_for file (first_names n s.typed.bodies) f (kinds n))
+      ≡ goals_of setting q (texts_in s) n f (written_for file (own_names (text_at s.typed s.annots n)) f (kinds n)) =
+      λ i. goals_of setting q (texts_in s) n f (written_for file (own i) f (kinds n)) in
+      one ∙ ap (λ o. goals_of setting q (texts_in s) n f (written_by file (own_names (text_at s.typed s.annots n)) o (kinds n))) (sym e)
 
-  body_same : (b : u.Body) → body_goals_by (setting_of_file s.typed s.annots (names_of s)) s.typed (core_of s.typed s.annots) (table_in s) (names_in s.typed.file.globals) kinds b
+  body_same : (b : u.Body) → body_goals_by (setting_of_file s.typed s.annots (names_of s)) s.typed (core_of s.typed s.annots) (texts_in s) (names_in s.typed.file.globals) kinds b
       ≡ body_goals s.typed s.annots (names_of s) kinds b
   body_same b = ap (λ gs. record { function = b.function; goals = gs }) (goals_same b.function ((core_of s.typed s.annots).functions b.function) refl)
 
 pub walks_are_of_sources : WalksAreOfSources
-walks_are_of_sources m ts s kinds built met =
-    let so = passes s built in
-    let texts = settings_are_plain.texts (facts_in s) (names_of s) so.calls in
+walks_are_of_sources m ts s kinds met =
     record {
       closed = λ n f e. steps_closed (core_of s.typed s.annots).facts (shape_of f (temporaries_in f.body) (kinds n)) (core_of s.typed s.annots).functions f.body (is_param f.params) [] no_temporaries (met.stands n f e);
-      goals = map_same (body_goals_by (setting_of_file s.typed s.annots (names_of s)) s.typed (core_of s.typed s.annots) (table_in s) (names_in s.typed.file.globals) kinds)
-          (body_goals s.typed s.annots (names_of s) kinds) (body_same s kinds texts) s.typed.bodies;
+      goals = map_same (body_goals_by (setting_of_file s.typed s.annots (names_of s)) s.typed (core_of s.typed s.annots) (texts_in s) (names_in s.typed.file.globals) kinds)
+          (body_goals s.typed s.annots (names_of s) kinds) (body_same s kinds) s.typed.bodies;
     }

@@ -12,18 +12,13 @@ use Rattle.walk_steps.specs.Walk.{Goal}
 use Rattle.program_steps.specs.Terms.{Texts}
 use Rattle.program_goals.specs.Programs.{goals_of}
 use Rattle.slot_names.specs.Bases.{Name}
-use Rattle.binder_names.specs.Tables.{Named, named_in}
 use Rattle.plain_goals.specs.Files.{FunctionGoals, written_for}
 use Rattle.plain_sources.specs.Built.{first_names}
 
--- binders have the names of the table, and no logic function is called by its number
-abbrev pub texts_by : List Named → Texts
-texts_by table = record { binders = named_in table; called = λ n. None }
-
-module _ (setting : Setting) (t : u.Typed) (q : Program Steps) (table : List Named) (file : List Name) (kinds : (function number : ℕ) → Kind) where
+module _ (setting : Setting) (t : u.Typed) (q : Program Steps) (texts : Texts) (file : List Name) (kinds : (function number : ℕ) → Kind) where
   abbrev pub goals_by : (function : ℕ) → Option (Function Steps) → List Goal
   goals_by n None = []
-  goals_by n (Some f) = goals_of setting q (texts_by table) n f (written_for file (first_names n t.bodies) f (kinds n))
+  goals_by n (Some f) = goals_of setting q texts n f (written_for file (first_names n t.bodies) f (kinds n))
 
   abbrev pub body_goals_by : u.Body → FunctionGoals
   body_goals_by b = record { function = b.function; goals = goals_by b.function (q.functions b.function) }

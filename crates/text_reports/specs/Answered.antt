@@ -13,7 +13,7 @@ use Rattle.acsl_typing.specs.Annotations.{Annotations}
 use Rattle.acsl_annotated.specs.Annotated.{file_expanded}
 use Rattle.c_typing.specs.Typing.{typed_program}
 use Rattle.plain_sources.specs.Sources.{Source, source_of}
-use Rattle.plain_sources.specs.Built.{is_built}
+use Rattle.logic_sources.specs.Built.{is_verified}
 use Rattle.plain_front.specs.Text.{Spells, HasFault}
 use Rattle.wp_words.specs.Command.{Wanted}
 use Rattle.file_reports.specs.declared.reports.FileReport.{FileReport}
@@ -30,17 +30,17 @@ Reported = Result FileReport Stop
 
 abbrev pub AnnotatedAnswer : Wanted → d.Program → u.Typed → Annotations → Reported → Type 0
 AnnotatedAnswer wanted p t a (Ok r) = Makes wanted (source_by p t a) (Some r)
-AnnotatedAnswer wanted p t a (Err (stop.Refused r)) = (is_built (source_by p t a) ≡ false) × (r ≡ unbuilt)
+AnnotatedAnswer wanted p t a (Err (stop.Refused r)) = (is_verified (source_by p t a) ≡ false) × (r ≡ unbuilt)
 AnnotatedAnswer wanted p t a (Err stop.NoMemory) = Unit {0}
 
 abbrev pub TypedAnswer : Wanted → d.Program → u.Typed → Reported → Type 0
 TypedAnswer wanted p t (Ok r) = (a : Annotations) × (file_expanded t ≡ Ok a) × Makes wanted (source_by p t a) (Some r)
-TypedAnswer wanted p t (Err (stop.Refused r)) = (file_expanded t ≡ Err r) ⊎ ((a : Annotations) × (file_expanded t ≡ Ok a) × (is_built (source_by p t a) ≡ false) × (r ≡ unbuilt))
+TypedAnswer wanted p t (Err (stop.Refused r)) = (file_expanded t ≡ Err r) ⊎ ((a : Annotations) × (file_expanded t ≡ Ok a) × (is_verified (source_by p t a) ≡ false) × (r ≡ unbuilt))
 TypedAnswer wanted p t (Err stop.NoMemory) = Unit {0}
 
 -- a fault of the program that a tree is
 abbrev pub TreeFault : Machdep → d.Program → Refusal → Type 0
-TreeFault m p r = (source_of m p ≡ Err r) ⊎ ((s : Source) × (source_of m p ≡ Ok s) × (is_built s ≡ false) × (r ≡ unbuilt))
+TreeFault m p r = (source_of m p ≡ Err r) ⊎ ((s : Source) × (source_of m p ≡ Ok s) × (is_verified s ≡ false) × (r ≡ unbuilt))
 
 abbrev pub TreeAnswer : Machdep → Wanted → d.Program → Reported → Type 0
 TreeAnswer m wanted p (Ok r) = (s : Source) × (source_of m p ≡ Ok s) × Makes wanted s (Some r)

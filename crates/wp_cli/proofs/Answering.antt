@@ -15,8 +15,8 @@ use Rattle.wp_base.specs.declared.kinds.Kind.{Kind}
 use Rattle.goal_report.specs.Report.{Reported, all_proved}
 use Rattle.plain_goals.specs.Laws.{IsMet}
 use Rattle.plain_sources.specs.Sources.{Source}
-use Rattle.plain_sources.specs.Built.{names_of}
-use Rattle.plain_sources.proofs.Verified.{verified_is_met}
+use Rattle.logic_sources.specs.Built.{names_of}
+use Rattle.logic_sources.proofs.Verified.{verified_is_met}
 use Rattle.plain_front.specs.Text.{Spells}
 use Rattle.plain_front.specs.Text as front
 use Rattle.plain_reports.specs.Reports.{IsReportOf, report_of}

@@ -19,7 +19,7 @@ use Rattle.wp_words.specs.Command.{Wanted, Command, command_of, asks, model_of, 
 use Rattle.wp_cli.specs.Top.{told, IsRead, AnswersFile, WritesAnswer, IsAnsweredBy}
 
 claims : (m : Machdep) (wanted : Wanted) (text : List ℕ) (s : Source) (rs : List Reported) → Spells m text s → (judged : IsReportOf m wanted s rs) → Claims s judged.kinds rs
-claims m wanted text s rs spelled judged = reports_claim m wanted s rs spelled.built judged
+claims m wanted text s rs spelled judged = reports_claim m wanted s rs judged
 
 -- an answer that was written whole is a report whose claims are so, or a refusal
 pub answer_written : (m : Machdep) (wanted : Wanted) (told before after : Option (List ℕ)) (result : Status) (bytes : List ℕ) → AnswersFile m wanted told result bytes → Appends before after bytes → WritesAnswer m wanted told before after result

@@ -5,7 +5,7 @@ use Rattle.core_checks.specs.Tree.{Steps}
 use Rattle.c_runs.specs.Program.{Function}
 use Rattle.slot_names.specs.Bases.{Name}
 use Rattle.program_trees.specs.Files.{at}
-use Rattle.built_sources.proofs.Numbered.{seen}
+use Rattle.verified_sources.proofs.Numbered.{seen}
 use Rattle.file_reports.specs.Bases.{function_bases, bases_if}
 
 pub is_found : {X Y : Type 0} (f : X → Y) (xs ys : List (Option X)) (n : ℕ) (x : X) → Some x ≡ at xs n → xs ≡ ys → at (map (option_map f) ys) n ≡ Some (f x)

@@ -1,5 +1,5 @@
 -- The report that is made of a source.
-use Rattle.std.proofs.Common.{◌≡◌, ℕ, Bool, true, false, ◌&&◌, List, Some, None, refl, sym, ap, ◌∙◌, subst}
+use Rattle.std.proofs.Common.{◌≡◌, ℕ, Bool, true, false, ◌&&◌, List, [], Some, None, refl, sym, ap, ◌∙◌, subst}
 use Rattle.std.specs.List.{list_all}
 use Rattle.wp_base.specs.declared.kinds.Kind.{Kind}
 use Rattle.c_kinds.specs.declared.models.Machdep.{Machdep}
@@ -60,7 +60,7 @@ module _ (tree : d.Program) (t : u.Typed) (a : Annotations) (p : Program Stmts) 
     tests_say = tests_are_of_sources (source_by tree t a) ∙ sym (λ i. is_verified_by t (of_file i) (of_core i) (table_is i) (of_names i))
 
     pub unverified : (wanted : Wanted) → is_verified_by t p q table file ≡ false → Makes wanted (source_by tree t a) None
-    unverified wanted no = tests_say ∙ no
+    unverified wanted isnt = tests_say ∙ isnt
 
     -- what is found of its logic functions is that of its source
     ordered : (o : Order) → IsOrder p.facts (file_names t) o → IsOrder (facts_in (source_by tree t a)) (spelled_in (source_by tree t a)) o

@@ -7,7 +7,6 @@ ghost use Rattle.plain_sources.specs.Built as built;
 ghost use Rattle.program_trees.specs.View.{view_core_program};
 ghost use Rattle.typed_unit.specs.View.{view_body, view_typed};
 
-use built_sources::item_at;
 use checked_trees::{CheckedFunction, CheckedProgram};
 use checks_added::add_checks;
 use plain_sources::{first_names, temporaries_in};
@@ -15,6 +14,7 @@ use program_trees::CoreProgram;
 use slot_names::slot_bases;
 use std::alloc::Global;
 use typed_unit::{Body, Typed};
+use verified_sources::item_at;
 use wp_base::{List, NoMemory, Str};
 
 // Of a function whose own variables have these names.

@@ -20,7 +20,6 @@ ghost use Rattle.wp_words.specs.CommandView.{view_wanted};
 use crate::judges::Prover;
 use crate::pages::{Page, put_lines};
 use binder_tables::Table;
-use built_sources::item_at;
 use c_scopes::Signature;
 use checked_trees::{CheckedFunction, CheckedProgram};
 use function_goals::walk_function;
@@ -29,6 +28,7 @@ use logic_texts::LogicTexts;
 use plain_sources::temporaries_in;
 use std::alloc::Global;
 use typed_unit::{Body, Typed};
+use verified_sources::item_at;
 use wp_base::{List, NoMemory, Str};
 
 // The name of a function by its number.

@@ -2,17 +2,26 @@
 use Rattle.std.specs.Prelude.{◌≡◌, ℕ, Bool, true, false, ◌&&◌, List, Option, Some, None}
 use Rattle.std.specs.List.{list_all}
 use Rattle.typed_unit.specs.Unit as u
-use Rattle.c_runs.specs.Program.{Stmts, Program}
+use Rattle.c_runs.specs.Program.{Stmts, Function, Program}
 use Rattle.core_checks.specs.Tree.{Steps}
+use Rattle.plain_runs.specs.Fitting.{is_param}
 use Rattle.plain_test.specs.Plain.{is_plain_file}
+use Rattle.plain_words.specs.Sets.{all_sets_stand}
 use Rattle.slot_names.specs.Bases.{Name}
 use Rattle.binder_names.specs.Tables.{Named, is_named_table}
-use Rattle.built_sources.specs.Tests.{body_stands}
 use Rattle.logic_order.specs.Order.{is_in_order, takes_in}
 use Rattle.logic_settings.specs.Found.{IsOrder}
 use Rattle.logic_settings.specs.declared.orders.Order.{Order}
 use Rattle.logic_sources.specs.Built.{fits_in}
 use Rattle.file_spellings.specs.Spelled.{file_names}
+
+-- sets of its loops name variables that are in scope
+abbrev pub loops_stand : Option (Function Stmts) → Bool
+loops_stand None = true
+loops_stand (Some f) = all_sets_stand (is_param f.params) f.body
+
+abbrev pub body_stands : (functions : (number : ℕ) → Option (Function Stmts)) → u.Body → Bool
+body_stands fs b = loops_stand (fs b.function)
 
 -- binders have names, sets of loops name what is in scope, and functions fit where logic functions take so many integers
 abbrev pub rest_fits : (takes : List (Option ℕ)) → u.Typed → Program Stmts → Program Steps → List Named → (file : List Name) → Bool

@@ -3,15 +3,14 @@ ghost use Rattle.std.specs.Prelude.{◌≡◌, map, IfOk};
 ghost use Rattle.std.specs.List.{list_all};
 ghost use Rattle.std.specs.Option.{option_copied, option_map};
 ghost use Rattle.binder_tables.specs.View.{view_table};
-ghost use Rattle.built_sources.specs.Tests as built;
 ghost use Rattle.checked_trees.specs.View.{view_checked_program};
 ghost use Rattle.program_trees.specs.Files.{at};
 ghost use Rattle.program_trees.specs.View.{view_function, view_program};
 ghost use Rattle.typed_unit.specs.View.{view_body, view_typed};
 ghost use Rattle.verified_sources.specs.Tests as spec;
 
+use crate::items::item_at;
 use binder_tables::Table;
-use built_sources::item_at;
 use checked_trees::CheckedProgram;
 use file_spellings::file_names;
 use logic_settings::{Order, order_of};
@@ -25,7 +24,7 @@ use wp_base::{NoMemory, Str};
 
 // Whether sets of a function's loops name what is in scope.
 fn loops_stand(alloc: Global, function: Option<&Function<'_>>) -> Result<bool, NoMemory>
-    ensures { IfOk result (λ so. so ≡ built.loops_stand (option_map view_function (option_copied function.entry))) }
+    ensures { IfOk result (λ so. so ≡ spec.loops_stand (option_map view_function (option_copied function.entry))) }
 {
     match function {
         None => Ok(true),
@@ -34,13 +33,13 @@ fn loops_stand(alloc: Global, function: Option<&Function<'_>>) -> Result<bool, N
 }
 
 // The same of the function with a number.
-#[tactic(auto, using(built_sources::proofs::Numbered::seen))]
+#[tactic(auto, using(crate::proofs::Numbered::seen))]
 fn loops_stand_at(
     alloc: Global,
     functions: &[Option<Function<'_>>],
     number: u32,
 ) -> Result<bool, NoMemory>
-    ensures { IfOk result (λ so. so ≡ built.loops_stand (at (map (option_map view_function) functions.now) number)) }
+    ensures { IfOk result (λ so. so ≡ spec.loops_stand (at (map (option_map view_function) functions.now) number)) }
 {
     let function = item_at(functions, number);
     loops_stand(alloc, function)
@@ -52,7 +51,7 @@ fn all_loops_stand(
     functions: &[Option<Function<'_>>],
     bodies: &[Body<'_>],
 ) -> Result<bool, NoMemory>
-    ensures { IfOk result (λ so. so ≡ list_all (built.body_stands (at (map (option_map view_function) functions.now))) (map view_body bodies.now)) }
+    ensures { IfOk result (λ so. so ≡ list_all (spec.body_stands (at (map (option_map view_function) functions.now))) (map view_body bodies.now)) }
 {
     for body in bodies {
         if !loops_stand_at(alloc, functions, body.function)? {

@@ -4,7 +4,7 @@ use Rattle.std.specs.Option.{option_map}
 use Rattle.program_trees.specs.Files.{at}
 use Rattle.program_trees.specs.View.{view_function}
 use Rattle.typed_unit.specs.View.{view_body}
-use Rattle.built_sources.specs.Tests.{body_stands}
+use Rattle.verified_sources.specs.Tests.{body_stands}
 use Rattle.verified_sources.proofs.tests.all_loops_stand.Given as goal
 
 -- all stand exactly where those do that are left

@@ -153,9 +153,7 @@ pub(crate) fn put_bodies<'a>(
     for index in 0..bodies.len() {
         let body = &bodies[index];
         let names = &bases[index];
-        put_body(
-            alloc, typed, program, table, file, names, judge, body, page,
-        )?;
+        put_body(alloc, typed, program, table, file, names, judge, body, page)?;
     }
     Ok(())
 }

@@ -4,4 +4,5 @@
 mod texts;
 mod trees;
 
+pub use file_reports::FileReport;
 pub use texts::report_text;

@@ -1,5 +1,5 @@
 -- What is found, in the words of the code.
-use Rattle.std.proofs.Common.{◌≡◌, ℕ, Bool, true, false, ◌&&◌, List, refl, sym, ap, ◌∙◌}
+use Rattle.std.proofs.Common.{◌≡◌, ℕ, Bool, true, false, ◌&&◌, List, Result, Ok, Err, IfOk, refl, sym, ap, ◌∙◌}
 use Rattle.std.specs.Prelude.{Option}
 use Rattle.typed_unit.specs.Unit as u
 use Rattle.c_runs.specs.Program.{Stmts, Program}
@@ -12,6 +12,11 @@ use Rattle.logic_settings.specs.Found.{IsOrder}
 use Rattle.logic_settings.specs.declared.orders.Order.{Order}
 use Rattle.file_spellings.specs.Spelled.{file_names}
 use Rattle.verified_sources.specs.Tests.{rest_fits, is_verified_by}
+
+-- three tests of which two are passed
+pub all_three : {E : Type 0} {a b : Bool} (c : Bool) (r : Result Bool E) → a ≡ true → b ≡ true → IfOk r (λ so. so ≡ c) → IfOk r (λ so. so ≡ (a && (b && c)))
+all_three c (Ok x) first second third = third ∙ sym (λ i. first i && (second i && c))
+all_three c (Err e) first second third = tt
 
 and_false : (b : Bool) → (b && false) ≡ false
 and_false true = refl

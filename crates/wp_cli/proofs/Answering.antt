@@ -13,14 +13,9 @@ use Rattle.c_kinds.specs.declared.models.Machdep.{Machdep}
 use Rattle.c_lexer.specs.Tokens.{most_bytes}
 use Rattle.wp_base.specs.declared.kinds.Kind.{Kind}
 use Rattle.goal_report.specs.Report.{Reported, all_proved}
-use Rattle.plain_goals.specs.Laws.{IsMet}
-use Rattle.plain_sources.specs.Sources.{Source}
-use Rattle.logic_sources.specs.Built.{names_of}
-use Rattle.logic_sources.proofs.Verified.{verified_is_met}
-use Rattle.plain_front.specs.Text.{Spells}
-use Rattle.plain_front.specs.Text as front
-use Rattle.plain_reports.specs.Reports.{IsReportOf, report_of}
-use Rattle.file_reports.specs.declared.reports.FileReport.{FileReport}
+use Rattle.text_reports.specs.Told.{IsMet, Source, names_of, Spells, IsReportOf, report_of, FileReport}
+use Rattle.text_reports.proofs.Told.{verified_is_met}
+use Rattle.text_reports.specs.Told as front
 use Rattle.text_reports.specs.Answered.{TextAnswer}
 use Rattle.wp_words.specs.Command.{Wanted}
 use Rattle.wp_cli.specs.declared.answer.Answer.{Answer}

@@ -8,12 +8,8 @@ use Rattle.wp_base.specs.declared.answers.Status.TheVariants as status
 use Rattle.c_kinds.specs.declared.models.Machdep.{Machdep}
 use Rattle.c_lexer.specs.Tokens.{most_bytes}
 use Rattle.goal_report.specs.Report.{Reported}
-use Rattle.plain_sources.specs.Sources.{Source}
-use Rattle.plain_front.specs.Text.{Spells}
-use Rattle.plain_front.proofs.Reading.{no_fault as none_faulty}
-use Rattle.plain_reports.specs.Reports.{IsReportOf}
-use Rattle.plain_reports.specs.Claims.{Claims}
-use Rattle.plain_reports.proofs.Claimed.{reports_claim}
+use Rattle.text_reports.specs.Told.{Source, Spells, IsReportOf, Claims}
+use Rattle.text_reports.proofs.Told.{no_fault as none_faulty, reports_claim}
 use Rattle.wp_cli.specs.Answers.{HasFault, too_long, faulty, Answers, proved, unknown, refused}
 use Rattle.wp_words.specs.Command.{Wanted, Command, command_of, asks, model_of, wanted_of, model_asked}
 use Rattle.wp_cli.specs.Top.{told, IsRead, AnswersFile, WritesAnswer, IsAnsweredBy}

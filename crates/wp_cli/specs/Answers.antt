@@ -7,10 +7,8 @@ use Rattle.wp_base.specs.declared.answers.Status.TheVariants as status
 use Rattle.c_kinds.specs.declared.models.Machdep.{Machdep}
 use Rattle.c_lexer.specs.Tokens.{most_bytes}
 use Rattle.goal_report.specs.Report.{Reported, all_proved}
-use Rattle.plain_sources.specs.Sources.{Source}
-use Rattle.plain_front.specs.Text.{Spells}
-use Rattle.plain_front.specs.Text as front
-use Rattle.plain_reports.specs.Reports.{IsReportOf, report_of}
+use Rattle.text_reports.specs.Told.{Source, Spells, IsReportOf, report_of}
+use Rattle.text_reports.specs.Told as front
 use Rattle.wp_words.specs.Command.{Wanted}
 use Rattle.wp_cli.specs.Report.{refusal_line}
 

@@ -9,10 +9,7 @@ use Rattle.wp_io.specs.Writes.{TakesFront}
 use Rattle.c_kinds.specs.declared.models.Machdep.{Machdep}
 use Rattle.c_lexer.specs.Tokens.{most_bytes}
 use Rattle.goal_report.specs.Report.{Reported, all_proved}
-use Rattle.plain_sources.specs.Sources.{Source}
-use Rattle.plain_front.specs.Text.{Spells}
-use Rattle.plain_reports.specs.Reports.{IsReportOf, report_of}
-use Rattle.plain_reports.specs.Claims.{Claims}
+use Rattle.text_reports.specs.Told.{Source, Spells, IsReportOf, report_of, Claims}
 use Rattle.wp_cli.specs.Report.{refusal_line}
 use Rattle.wp_words.specs.Command.{Wanted, file_named}
 use Rattle.wp_cli.specs.Answers.{Answers, HasFault}

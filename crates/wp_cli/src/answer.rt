@@ -10,9 +10,8 @@ ghost use Rattle.wp_words.specs.CommandView.{view_wanted};
 
 use crate::refusals::refusal_text;
 use c_kinds::Machdep;
-use file_reports::FileReport;
 use std::alloc::Global;
-use text_reports::report_text;
+use text_reports::{FileReport, report_text};
 use wp_base::{NoMemory, Refusal, Rule, Status, Stop, Str};
 use wp_words::Wanted;
 

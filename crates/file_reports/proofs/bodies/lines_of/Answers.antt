@@ -18,7 +18,7 @@ returns c k closed =
     let judged = says setting (view_wanted c.args.judge.wanted) in
     let start : AreLines judged c.args.judge.wanted.shows_goals c.args.name [] c.new.result.items 0 0 =
     record { judged = []; are = tt; text_is = c.new.ensures.items; goals_is = refl; proved_is = refl } in
-    let lines = c.in_ok-walk_function.new.lines in
+    let lines = c.walk_function.new.sink in
     let said =
     (c.in_ok-walk_function.ensures
     (record { alloc = c.args.alloc; judge = c.args.judge; shows = c.args.judge.wanted.shows_goals; name = c.args.name; text = c.new.result; goals = 0; proved = 0 })

@@ -4,3 +4,4 @@ pub mod Laws
 pub mod Allowed
 pub mod Ranges
 pub mod Recursion
+pub mod Told

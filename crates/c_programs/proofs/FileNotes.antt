@@ -12,7 +12,9 @@ use Rattle.acsl_expand.specs.Expansion.{Definition}
 use Rattle.acsl_clauses.specs.Typed.{TypedClause}
 use Rattle.acsl_notes.specs.Notes.{Note, Noted, Enclosing, params_scope, noted, body_noted, at_start as start}
 use Rattle.acsl_definitions.specs.Definitions.{definition_typed}
-use Rattle.acsl_typing.specs.Annotations.{Annotation, of_function, of_definition, Annotations, Annotating, before_of, enclosing_of, notes_in as typed_notes_in, notes_of as typed_notes_of, contract_of, with_function, bodies_behind, function_annotated, definition_annotated, part_by, part_annotated, parts_annotated, at_start, finished, file_annotated}
+use Rattle.acsl_annotated.specs.Told.{Annotation, of_function, of_definition, Annotations, Annotating, before_of, enclosing_of, notes_in as typed_notes_in}
+use Rattle.acsl_annotated.specs.Told.{notes_of as typed_notes_of, contract_of, with_function, bodies_behind, function_annotated, definition_annotated}
+use Rattle.acsl_annotated.specs.Told.{part_by, part_annotated, parts_annotated, at_start, finished, file_annotated}
 use Rattle.acsl_annotated.specs.Annotated.{behind, note_expanded, meant_from, item_expanded, items_from, all_expanded}
 use Rattle.c_programs.specs.Files.{Text, notes_in, notes_of, text_of}
 use Rattle.c_programs.specs.FileLaws.{IsNoted, BodiesAreNoted, BodyIsPlaced, BodiesArePlaced}

@@ -4,7 +4,7 @@ use Rattle.c_scopes.specs.declared.symbols.Object.{Object}
 use Rattle.typed_unit.specs.Unit as u
 use Rattle.acsl_expand.specs.Expansion.{Definition}
 use Rattle.acsl_notes.specs.Notes.{Enclosing, Note, Noted, params_scope, at_start, body_noted}
-use Rattle.acsl_typing.specs.Annotations.{Annotations, file_annotated}
+use Rattle.acsl_annotated.specs.Told.{Annotations, file_annotated}
 use Rattle.acsl_annotated.specs.Annotated.{note_expanded, meant_from, all_expanded}
 use Rattle.c_programs.specs.Bodies.{placed}
 use Rattle.c_programs.specs.Files.{Text, notes_of, text_of}

@@ -12,7 +12,7 @@ use Rattle.c_scopes.specs.Extents.{element_cells}
 use Rattle.typed_unit.specs.Unit as u
 use Rattle.acsl_clauses.specs.Typed.{TypedClause}
 use Rattle.acsl_notes.specs.Notes.{Note}
-use Rattle.acsl_typing.specs.Annotations.{Annotation, Annotations, of_function, of_definition}
+use Rattle.acsl_annotated.specs.Told.{Annotation, Annotations, of_function, of_definition}
 use Rattle.acsl_annotated.specs.Annotated.{meant_from}
 use Rattle.c_runs.specs.Program.{Stmts, Variable, Function, Facts, Program}
 use Rattle.c_runs.specs.Objects.{cell_of}

@@ -5,3 +5,4 @@ pub mod Files
 pub mod Placing
 pub mod FileLaws
 pub mod Laws
+pub mod Told

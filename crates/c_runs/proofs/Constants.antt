@@ -15,7 +15,7 @@ use Rattle.typed_prog.specs.declared.operators.Arithmetic.{Arithmetic}
 use Rattle.typed_prog.specs.declared.operators.Arithmetic.TheVariants as ar
 use Rattle.typed_prog.specs.declared.operators.Comparison.{Comparison}
 use Rattle.typed_prog.specs.declared.operators.Comparison.TheVariants as cmp
-use Rattle.qed_terms.specs.Operators.{is_zero, is_equal}
+use Rattle.acsl_truth.specs.Told.{is_zero, is_equal}
 use Rattle.acsl_truth.specs.States.{number}
 use Rattle.acsl_truth.specs.Truth.{compare}
 use Rattle.c_runs.specs.Operators.{Undefined, overflow, divzero, shift, Val, is, where_true, truth_number, within, fits, may_shift, may_divide, arithmetic, computed, negated, complement}

@@ -1,6 +1,6 @@
 -- What a function may change by its clauses (ACSL 2.3.2), in the words of annotations: what a whole run changes, beside each single write.
 use Rattle.std.specs.Prelude.{◌≡◌, ℕ, Bool, true, false, List, [], ◌∷◌, Option, Some, None}
-use Rattle.acsl_trees.specs.Tree.{Tree}
+use Rattle.acsl_truth.specs.Told.{Tree}
 use Rattle.acsl_truth.specs.States.{Value, State, World}
 use Rattle.acsl_truth.specs.Allowed.{Allows}
 use Rattle.c_runs.specs.Program.{Behavior, Contract, Facts}

@@ -3,7 +3,7 @@ use Rattle.std.specs.Prelude.{ℕ, nat_le, Bool, true, false, not, ◌&&◌, ◌
 use Rattle.std.specs.List.{filter, list_all, list_any}
 use Rattle.wp_base.specs.declared.kinds.CellKind.{CellKind}
 use Rattle.wp_base.specs.Blocks.{count}
-use Rattle.acsl_trees.specs.Tree.{Tree}
+use Rattle.acsl_truth.specs.Told.{Tree}
 use Rattle.acsl_truth.specs.States.{Value, number, State, World, number_of, is_negative}
 use Rattle.acsl_truth.specs.Truth as truth
 use Rattle.acsl_truth.specs.Allowed.{lies_in, is_named}

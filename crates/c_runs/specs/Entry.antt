@@ -4,7 +4,7 @@ use Rattle.wp_base.specs.declared.kinds.CellKind.{CellKind}
 use Rattle.wp_base.specs.declared.kinds.CellKind.TheVariants as cell
 use Rattle.wp_base.specs.Blocks.{Table, count, has_layout, len, is_cell}
 use Rattle.c_kinds.specs.Models.{holds, high, difference_kind}
-use Rattle.qed_terms.specs.Operators.{is_zero}
+use Rattle.acsl_truth.specs.Told.{is_zero}
 use Rattle.acsl_truth.specs.States.{Value, number, pointer}
 use Rattle.c_runs.specs.Program.{Variable, Function, Facts, Program}
 use Rattle.c_runs.specs.States.{Memory, global_home, plain_globals}

@@ -12,3 +12,4 @@ pub mod Entry
 pub mod Reach
 pub mod Allowed
 pub mod Laws
+pub mod Told

@@ -12,7 +12,7 @@ use Rattle.typed_prog.specs.declared.operators.Arithmetic.{Arithmetic}
 use Rattle.typed_prog.specs.declared.operators.Arithmetic.TheVariants as ar
 use Rattle.typed_prog.specs.declared.operators.Comparison.{Comparison}
 use Rattle.typed_prog.specs.declared.operators.Comparison.TheVariants as cmp
-use Rattle.qed_terms.specs.Operators.{is_zero, is_equal, quotient}
+use Rattle.acsl_truth.specs.Told.{is_zero, is_equal, quotient}
 use Rattle.acsl_truth.specs.States.{Value, number, pointer, block_of, offset_of, number_of}
 use Rattle.acsl_truth.specs.Truth.{compare, compare_pointers, moved, moved_by}
 use Rattle.c_runs.specs.States.{is_nonzero}

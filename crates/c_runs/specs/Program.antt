@@ -5,8 +5,7 @@ use Rattle.wp_base.specs.declared.kinds.CellKind.{CellKind}
 use Rattle.wp_base.specs.declared.kinds.Layout.{Layout}
 use Rattle.c_kinds.specs.declared.models.Machdep.{Machdep}
 use Rattle.typed_prog.specs.Tree.{Value}
-use Rattle.acsl_trees.specs.Tree.{Tree}
-use Rattle.acsl_expand.specs.Expansion.{Definition}
+use Rattle.acsl_truth.specs.Told.{Tree, Definition}
 
 -- ---- annotations
 

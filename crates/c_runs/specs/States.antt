@@ -3,7 +3,7 @@ use Rattle.std.specs.Prelude.{ℕ, zero, suc, ◌+◌, ◌-◌, ◌==◌, nat_lt
 use Rattle.wp_base.specs.Blocks.{Table}
 use Rattle.typed_prog.specs.declared.operators.Variable as code
 use Rattle.typed_prog.specs.declared.operators.Variable.TheVariants as variable
-use Rattle.qed_terms.specs.Operators.{is_zero, is_equal}
+use Rattle.acsl_truth.specs.Told.{is_zero, is_equal}
 use Rattle.acsl_truth.specs.States.{Value, number, pointer, State, null, block_of, offset_of, number_of}
 use Rattle.c_runs.specs.Program.{Variable, Facts}
 

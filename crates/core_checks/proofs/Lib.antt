@@ -1,3 +1,4 @@
 pub mod Writing
 pub mod Running
 mod Ordered
+pub mod Told

@@ -3,7 +3,7 @@ use Rattle.std.proofs.Common.{◌≡◌, ℕ, zero, suc, Bool, true, ◌&&◌, L
 use Rattle.std.specs.Prelude.{if◌then◌else◌, option_map}
 use Rattle.std.proofs.lemmas.Bool.{and_parts}
 use Rattle.typed_prog.specs.Tree as t
-use Rattle.acsl_truth.specs.States.{Value}
+use Rattle.c_runs.specs.Told.{Value}
 use Rattle.c_runs.specs.Program.{Loop, Variable, Function, Facts, Program}
 use Rattle.c_runs.specs.States.{World, Here, is_nonzero}
 use Rattle.c_runs.specs.Operators.{is, wrong}
@@ -18,11 +18,8 @@ use Rattle.core_runs.specs.Core as tree
 use Rattle.core_runs.specs.Core.{Target, Core, Cores}
 use Rattle.core_runs.specs.Run as core
 use Rattle.core_runs.specs.Run.{CoreWorld, Ending, goes_on, exits, returns, stopped, then_do, with_val, with_eval, in_world, with_temp, block_end, scope_end, unless, one_turn, begun}
-use Rattle.rte_checks.specs.Checks.{checks_of, all_checks, is_pure, are_pure}
-use Rattle.rte_checks.specs.Tests.{total, totals, is_met}
-use Rattle.rte_checks.specs.Laws.{settle}
-use Rattle.rte_checks.proofs.Settling.{settle_through}
-use Rattle.rte_checks.proofs.Checking.{checked}
+use Rattle.normal_stmts.specs.Told.{checks_of, all_checks, is_pure, are_pure, total, totals, is_met, settle}
+use Rattle.normal_stmts.proofs.Told.{settle_through, checked}
 use Rattle.normal_stmts.specs.Laws.{is_core_target, is_core, are_core}
 use Rattle.core_checks.specs.Tree.{Steps}
 use Rattle.core_checks.specs.Adding.{goal_of, step_of, steps_of, function_of, add_checks}

@@ -4,7 +4,7 @@ use Rattle.std.specs.Prelude.{slice_get}
 use Rattle.typed_prog.specs.declared.types.CoreType.{CoreType}
 use Rattle.typed_prog.specs.declared.operators.Path.{Path}
 use Rattle.typed_prog.specs.Tree as t
-use Rattle.acsl_truth.specs.States.{Value}
+use Rattle.c_runs.specs.Told.{Value}
 use Rattle.c_runs.specs.Program.{Facts, Variable}
 use Rattle.c_runs.specs.States.{World, Here}
 use Rattle.c_runs.specs.Operators.{Undefined, index, access, is, wrong, where_true}
@@ -14,12 +14,8 @@ use Rattle.c_runs.specs.Claims.{undefined}
 use Rattle.c_runs.specs.Calls.{nought}
 use Rattle.c_runs.specs.Effects.{Written, unwritten, written_at, target, written_by, write, wrote_act, assigned}
 use Rattle.core_runs.specs.Run.{Ending, with_eval}
-use Rattle.rte_checks.specs.Checks.{Check, one_if, all_checks, are_pure}
-use Rattle.rte_checks.specs.Tests.{totals, step_test}
-use Rattle.rte_checks.specs.Laws.{settle}
-use Rattle.rte_checks.proofs.Settling.{settle_append, settle_through, last_settle}
-use Rattle.rte_checks.proofs.Operators.{at_step, indexed_settle, unless_pointed}
-use Rattle.rte_checks.proofs.Checking.{operands_same, all_checked}
+use Rattle.normal_stmts.specs.Told.{Check, one_if, all_checks, are_pure, totals, step_test, settle}
+use Rattle.normal_stmts.proofs.Told.{settle_append, settle_through, last_settle, at_step, indexed_settle, unless_pointed, operands_same, all_checked}
 use Rattle.core_checks.specs.Adding.{way_checks_by, way_checks, place_checks}
 use Rattle.core_checks.specs.Run.{goes_wrong, is_met_in, way_test_by, place_test, put_by, put, stored_value, way_values}
 

@@ -7,7 +7,7 @@ use Rattle.c_runs.specs.Operators.{access}
 use Rattle.c_runs.specs.Objects.{plain_root, is_pointed}
 use Rattle.core_runs.specs.Core as core
 use Rattle.core_runs.specs.Core.{Target, Core, Cores}
-use Rattle.rte_checks.specs.Checks.{Check, one_if, index_checks, checks_of, all_checks}
+use Rattle.normal_stmts.specs.Told.{Check, one_if, index_checks, checks_of, all_checks}
 use Rattle.core_checks.specs.Tree.{Goal, nowhere, temporary, place, variable, Step, set, store, start, call, branch, repeat, around, exit, give, claim, scope, Steps, end, then_}
 
 -- ---- an object that is written: the index checks of its way, and then the access

@@ -16,7 +16,7 @@ use Rattle.typed_prog.specs.Tree as t
 use Rattle.c_runs.specs.Program.{Variable, Stmt, evaluate, return_of, stop, more}
 use Rattle.c_runs.specs.Operators.{Undefined, init, overflow, divzero, shift, access, index}
 use Rattle.normal_stmts.specs.Normal.{stmts}
-use Rattle.rte_checks.specs.Checks.{Check}
+use Rattle.normal_stmts.specs.Told.{Check}
 use Rattle.core_checks.specs.Tree.{Goal, place, Step, set, store, start, call, branch, repeat, around, exit, give, claim, scope, Steps, end, then_}
 use Rattle.core_checks.specs.Adding.{steps_of}
 

@@ -1,6 +1,6 @@
 -- What is so of core programs with checks.
 use Rattle.std.specs.Prelude.{◌≡◌, ℕ, true, List, Some}
-use Rattle.acsl_truth.specs.States.{Value}
+use Rattle.c_runs.specs.Told.{Value}
 use Rattle.c_runs.specs.Program.{Function, Program}
 use Rattle.c_runs.specs.States.{Memory}
 use Rattle.core_runs.specs.Core.{Cores}

@@ -3,3 +3,4 @@ pub mod Adding
 pub mod Run
 pub mod Laws
 pub mod Examples
+pub mod Told

@@ -4,7 +4,7 @@ use Rattle.std.specs.Prelude.{ℕ, zero, suc, Bool, true, if◌then◌else◌, �
 use Rattle.typed_prog.specs.declared.types.CoreType.{CoreType}
 use Rattle.typed_prog.specs.declared.operators.Path.{Path}
 use Rattle.typed_prog.specs.Tree as t
-use Rattle.acsl_truth.specs.States.{Value}
+use Rattle.c_runs.specs.Told.{Value}
 use Rattle.c_runs.specs.Program.{Loop, Variable, Function, Facts, Program}
 use Rattle.c_runs.specs.States.{World, Memory, Here, is_nonzero, with_local, plain}
 use Rattle.c_runs.specs.Operators.{Undefined, index, access}
@@ -17,9 +17,7 @@ use Rattle.c_runs.specs.Calls.{Eval, gives, stops, Act, nought, called}
 use Rattle.c_runs.specs.Effects.{Written, granted, cell_written, wrote_act, initial_act}
 use Rattle.c_runs.specs.Run as spelled
 use Rattle.core_runs.specs.Run.{CoreWorld, Ending, goes_on, exits, returns, stopped, then_do, with_eval, in_world, with_temp, block_end, scope_end, unless, one_turn, begun}
-use Rattle.rte_checks.specs.Checks.{Check}
-use Rattle.rte_checks.specs.Tests.{total, totals, step_test, holds_in, is_met}
-use Rattle.rte_checks.specs.Laws.{settle}
+use Rattle.normal_stmts.specs.Told.{Check, total, totals, step_test, holds_in, is_met, settle}
 use Rattle.core_checks.specs.Tree.{Goal, nowhere, temporary, place, variable, Step, set, store, start, call, branch, repeat, around, exit, give, claim, scope, Steps, end, then_}
 
 -- ---- checks

@@ -4,7 +4,7 @@ use Rattle.typed_prog.specs.declared.types.CoreType.{CoreType}
 use Rattle.typed_prog.specs.declared.operators.Path.{Path}
 use Rattle.typed_prog.specs.Tree.{Value, Values}
 use Rattle.c_runs.specs.Program.{Claim, Loop}
-use Rattle.rte_checks.specs.Checks.{Check}
+use Rattle.normal_stmts.specs.Told.{Check}
 
 -- where the result of a call goes; what is asked of a place is asked behind the call
 pub data Goal : Type 0 where

@@ -28,7 +28,7 @@ use Rattle.logic_settings.specs.declared.orders.Order.{Order}
 use Rattle.logic_texts.specs.Laws.{texts_by}
 use Rattle.logic_texts.proofs.Texts_by.{texts_are_of_files}
 use Rattle.file_spellings.specs.Spelled.{file_names}
-use Rattle.logic_sources.specs.Built.{names_of, spelled_in, texts_in, body_fits, is_verified}
+use Rattle.plain_reports.specs.Told.{names_of, spelled_in, texts_in, body_fits, is_verified}
 use Rattle.verified_sources.specs.Tests.{is_verified_by}
 use Rattle.verified_sources.proofs.Sources.{tests_are_of_sources}
 use Rattle.source_goals.specs.Walked.{AllBodiesClosed, file_goals_by}

@@ -1,6 +1,5 @@
 -- Lines of goals behind those that came before.
 use Rattle.std.proofs.Common.{◌≡◌, ◌<◌, ◌≤◌, ◌-◌, ◌==◌, ℕ, suc, ◌+◌, Bool, true, false, not, cond, ◌&&◌, List, [], ◌∷◌, ◌++◌, map, take, length, get_or, refl, sym, ap, ◌∙◌, subst, append_assoc, append-nil, arith}
-use Rattle.std.specs.List.{list_all}
 use Rattle.std.proofs.Math.Dec.{eqb-suc-zero}
 use Rattle.std.proofs.lemmas.Bool.{eqb-true, eq-eqb}
 use Rattle.std.proofs.lemmas.List.{take_more, take_all, map-append, length-append}
@@ -8,18 +7,12 @@ use Rattle.std.proofs.lemmas.List.Sums.{sum_by-append, sum_by-cons}
 use Rattle.qed_terms.specs.Setting.{Setting}
 use Rattle.typed_unit.specs.Unit as u
 use Rattle.slot_names.specs.Bases.{Name}
-use Rattle.goal_report.specs.Report.{Judged, Reported, goal_lines, all_lines, all_goals, is_proved, goals_proved, all_proved, proved_in, unknown_in, hypothesis_lines, ignored_lines, summary_line, report_text}
-use Rattle.goal_report.specs.Judging.{EachIsSo}
+use Rattle.goal_report.specs.Report.{Judged, Reported, goal_lines, all_lines, all_goals, is_proved, goals_proved, all_proved, proved_in, unknown_in, hypothesis_lines, ignored_lines, summary_line}
+use Rattle.goal_report.proofs.Counting.{each_more}
 use Rattle.plain_goals.specs.Files.{FunctionGoals}
 use Rattle.wp_words.specs.Command.{Wanted}
 use Rattle.plain_reports.specs.Reports.{IsReported}
 use Rattle.file_reports.specs.Lines.{Page, BodyLines, FileLines, IsReport, headed}
-
-each_more : {X Y : Type 0} (Is : X → Y → Type 0) (xs : List X) (ys : List Y) (x : X) (y : Y) → EachIsSo Is xs ys → Is x y → EachIsSo Is (xs ++ x ∷ []) (ys ++ y ∷ [])
-each_more Is [] [] x y h e = (e, tt)
-each_more Is [] (b ∷ ys) x y h e = absurd h
-each_more Is (a ∷ xs) [] x y h e = absurd h
-each_more Is (a ∷ xs) (b ∷ ys) x y h e = (h.0, each_more Is xs ys x y h.1 e)
 
 lines_behind : (rs : List Reported) (r : Reported) → all_lines (rs ++ r ∷ []) ≡ all_lines rs ++ goal_lines r.name 1 r.goals
 lines_behind [] r = append-nil (goal_lines r.name 1 r.goals)

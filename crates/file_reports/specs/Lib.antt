@@ -2,3 +2,4 @@ pub mod Bases
 pub mod Lines
 pub mod View
 pub mod Made
+pub mod Told

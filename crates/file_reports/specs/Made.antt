@@ -10,7 +10,7 @@ use Rattle.from_lines.specs.Froms.{from_lines}
 use Rattle.plain_goals.specs.Files.{file_goals, names_in, setting_of_file}
 use Rattle.plain_goals.specs.Laws.{IsMet}
 use Rattle.plain_sources.specs.Sources.{Source}
-use Rattle.logic_sources.specs.Built.{names_of, is_verified}
+use Rattle.plain_reports.specs.Told.{names_of, is_verified}
 use Rattle.wp_words.specs.Command.{Wanted}
 use Rattle.file_reports.specs.declared.reports.FileReport.{FileReport}
 use Rattle.file_reports.specs.Lines.{IsReport}

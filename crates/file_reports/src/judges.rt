@@ -1,14 +1,15 @@
 // Who decides goals.
-ghost use Rattle.std.specs.Prelude.{◌≡◌, true, IfOk};
+ghost use Rattle.std.specs.Prelude.{◌≡◌, true, map, IfOk};
 ghost use Rattle.plain_reports.specs.Reports as spec;
 ghost use Rattle.qed_terms.specs.Setting.{is_regular};
-ghost use Rattle.qed_terms.specs.View.{goal_tree, view_setting};
+ghost use Rattle.qed_terms.specs.Tree.{goal_of};
+ghost use Rattle.qed_terms.specs.View.{formula_tree, view_setting};
 ghost use Rattle.wp_words.specs.CommandView.{view_wanted};
 
+use goal_prover::prove_goal;
 use goal_report::Judge;
 use logic_settings::Order;
-use prover::prove;
-use qed_terms::{Goal, Verdict};
+use qed_terms::{Formula, Verdict};
 use std::alloc::Global;
 use wp_base::NoMemory;
 use wp_words::Wanted;
@@ -21,13 +22,18 @@ pub(crate) struct Prover<'a> {
     ghost regular: { is_regular (view_setting order.now.setting) ≡ true },
 }
 
-fn verdict_of(alloc: Global, prover: &Prover<'_>, goal: &Goal) -> Result<Verdict, NoMemory>
-    ensures { IfOk result (λ verdict. spec.says (view_setting prover.now.order.now.setting) (view_wanted prover.now.wanted) (goal_tree goal.now) verdict) }
+fn verdict_of(
+    alloc: Global,
+    prover: &Prover<'_>,
+    known: &[Formula],
+    claim: &Formula,
+) -> Result<Verdict, NoMemory>
+    ensures { IfOk result (λ verdict. spec.says (view_setting prover.now.order.now.setting) (view_wanted prover.now.wanted) (goal_of (map formula_tree known.now) (formula_tree claim.now)) verdict) }
 {
-    let formula = goal.formula(alloc)?;
-    let verdict = prove(
+    let verdict = prove_goal(
         alloc,
-        &formula,
+        known,
+        claim,
         prover.wanted.fuel,
         prover.wanted.branches,
         &prover.order.setting,
@@ -38,7 +44,12 @@ fn verdict_of(alloc: Global, prover: &Prover<'_>, goal: &Goal) -> Result<Verdict
 impl<'a> Judge for Prover<'a> {
     ghost says = { λ j goal verdict. spec.says (view_setting j.order.now.setting) (view_wanted j.wanted) goal verdict };
 
-    fn judge(&self, alloc: Global, goal: &Goal) -> Result<Verdict, NoMemory> {
-        verdict_of(alloc, self, goal)
+    fn judge(
+        &self,
+        alloc: Global,
+        known: &[Formula],
+        claim: &Formula,
+    ) -> Result<Verdict, NoMemory> {
+        verdict_of(alloc, self, known, claim)
     }
 }

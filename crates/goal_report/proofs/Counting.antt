@@ -7,7 +7,8 @@ use Rattle.walk_steps.specs.Walk.{Goal, formula_of}
 use Rattle.goal_report.specs.Report.{Judged, goal_lines, lines_of, is_proved, proved_in}
 use Rattle.goal_report.specs.Judging.{EachIsSo, AreLines, IsJudged, shown}
 
-each_more : {X Y : Type 0} (Is : X → Y → Type 0) (xs : List X) (ys : List Y) (x : X) (y : Y) → EachIsSo Is xs ys → Is x y → EachIsSo Is (xs ++ x ∷ []) (ys ++ y ∷ [])
+-- one more on both sides
+pub each_more : {X Y : Type 0} (Is : X → Y → Type 0) (xs : List X) (ys : List Y) (x : X) (y : Y) → EachIsSo Is xs ys → Is x y → EachIsSo Is (xs ++ x ∷ []) (ys ++ y ∷ [])
 each_more Is [] [] x y h e = (e, tt)
 each_more Is [] (b ∷ ys) x y h e = absurd h
 each_more Is (a ∷ xs) [] x y h e = absurd h

@@ -68,12 +68,19 @@ fn put_goal(
 
 // The line of a goal's text, where it is to be shown.
 #[tactic(auto, using(crate::proofs::Spelling::text_line_put, crate::proofs::Spelling::no_text_put))]
-fn put_text(alloc: Global, text: &mut Vec<u8>, goal: &Goal, shows: bool) -> Result<(), NoMemory>
-    ensures { IfOk result (λ _. text.new.items ≡ text.old.items ++ spec.text_line (shown shows (map formula_tree goal.now.known) (formula_tree goal.now.check))) }
+fn put_text(
+    alloc: Global,
+    text: &mut Vec<u8>,
+    known: &[Formula],
+    claim: &Formula,
+    shows: bool,
+) -> Result<(), NoMemory>
+    ensures { IfOk result (λ _. text.new.items ≡ text.old.items ++ spec.text_line (shown shows (map formula_tree known.now) (formula_tree claim.now))) }
 {
     if shows {
+        let goal = goal_of(alloc, known, claim)?;
         put(text, b"  ")?;
-        put(text, write_goal(alloc, goal)?.bytes())?;
+        put(text, write_goal(alloc, &goal)?.bytes())?;
         put(text, b"\n")?;
     }
     Ok(())
@@ -87,13 +94,14 @@ fn put_judged(
     number: usize,
     place: Place,
     verdict: Verdict,
-    goal: &Goal,
+    known: &[Formula],
+    claim: &Formula,
     shows: bool,
 ) -> Result<(), NoMemory>
-    ensures { IfOk result (λ _. text.new.items ≡ text.old.items ++ spec.lines_of function.now number (record { place = view_place place; verdict = verdict; text = shown shows (map formula_tree goal.now.known) (formula_tree goal.now.check) })) }
+    ensures { IfOk result (λ _. text.new.items ≡ text.old.items ++ spec.lines_of function.now number (record { place = view_place place; verdict = verdict; text = shown shows (map formula_tree known.now) (formula_tree claim.now) })) }
 {
     put_goal(text, function, number, place, verdict)?;
-    put_text(alloc, text, goal, shows)?;
+    put_text(alloc, text, known, claim, shows)?;
     Ok(())
 }
 
@@ -126,8 +134,7 @@ impl<J: Judge> GoalSink for FunctionLines<J> {
     ghost fits = { λ first now gs. (now.judge ≡ first.judge) × (now.shows ≡ first.shows) × (now.name ≡ first.name) × AreLines (J.says first.judge) first.shows first.name gs now.text.items now.goals now.proved };
 
     fn take(&mut self, place: Place, known: &[Formula], claim: &Formula) -> Result<(), NoMemory> {
-        let goal = goal_of(self.alloc, known, claim)?;
-        let verdict = self.judge.judge(self.alloc, &goal)?;
+        let verdict = self.judge.judge(self.alloc, known, claim)?;
         let number = self.goals.checked_add(1).ok_or(NoMemory)?;
         let proved = counted(verdict, self.proved)?;
         put_judged(
@@ -137,7 +144,8 @@ impl<J: Judge> GoalSink for FunctionLines<J> {
             number,
             place,
             verdict,
-            &goal,
+            known,
+            claim,
             self.shows,
         )?;
         self.goals = number;

@@ -1,10 +1,10 @@
 // Who says what of goals.
-ghost use Rattle.std.specs.Prelude.{IfOk};
-ghost use Rattle.qed_terms.specs.Tree.{Tree};
-ghost use Rattle.qed_terms.specs.View.{goal_tree};
+ghost use Rattle.std.specs.Prelude.{map, IfOk};
+ghost use Rattle.qed_terms.specs.Tree.{Tree, goal_of};
+ghost use Rattle.qed_terms.specs.View.{formula_tree};
 ghost use Rattle.qed_terms.specs.declared.verdict.Verdict.{Verdict as Said};
 
-use qed_terms::{Goal, Verdict};
+use qed_terms::{Formula, Verdict};
 use std::alloc::Global;
 use wp_base::NoMemory;
 
@@ -13,7 +13,7 @@ pub trait Judge {
     /// What it may say of a goal.
     ghost says: { Self → Tree → Said → Type 0 };
 
-    /// What it says of a goal.
-    fn judge(&self, alloc: Global, goal: &Goal) -> Result<Verdict, NoMemory>
-        ensures { IfOk result (λ verdict. says self.now (goal_tree goal.now) verdict) };
+    /// What it says of the goal that a claim holds where all that is known does.
+    fn judge(&self, alloc: Global, known: &[Formula], claim: &Formula) -> Result<Verdict, NoMemory>
+        ensures { IfOk result (λ verdict. says self.now (goal_of (map formula_tree known.now) (formula_tree claim.now)) verdict) };
 }

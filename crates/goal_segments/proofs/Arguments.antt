@@ -9,9 +9,8 @@ use Rattle.acsl_truth.specs.States.{Value, number, number_of}
 use Rattle.c_runs.specs.Program.{Variable, Facts}
 use Rattle.c_runs.specs.Scopes.{scalar_of}
 use Rattle.c_runs.specs.Entry.{is_value, are_arguments, leads_well, all_lead_well}
-use Rattle.plain_states.specs.Scopes.{is_integer, are_one_integer, kind_of}
-use Rattle.plain_states.proofs.Scoping.{cell_of_integer, none_some}
-use Rattle.plain_states.proofs.Calling.{some_same}
+use Rattle.plain_runs.specs.Told.{is_integer, are_one_integer, kind_of}
+use Rattle.plain_runs.proofs.Told.{cell_of_integer, none_some, some_same}
 use Rattle.plain_runs.specs.Fitting.{AreOf}
 use Rattle.plain_runs.proofs.Whole.{number_value}
 

@@ -22,9 +22,8 @@ use Rattle.core_checks.specs.Tree.{Goal, nowhere, Step, call, Steps}
 use Rattle.core_checks.specs.Run as run
 use Rattle.segments.specs.Segments.{Asks, BodyEnds, behind_call}
 use Rattle.segments.specs.Segments as segment
-use Rattle.plain_states.specs.Slots.{State, Sizes, at, value_slot, world_in, core_in}
-use Rattle.plain_states.specs.Scopes.{IsClean, is_integer, entry_state, behind_state}
-use Rattle.plain_states.proofs.Entering.{arrives, comes_back}
+use Rattle.plain_runs.specs.Told.{State, Sizes, at, value_slot, world_in, core_in, IsClean, is_integer, entry_state, behind_state}
+use Rattle.plain_runs.proofs.Told.{arrives, comes_back}
 use Rattle.plain_runs.specs.Fitting.{IsGood, Shape, sizes, Fit, AreOf, is_param, FitsFunction, FitsProgram}
 use Rattle.plain_runs.specs.Kept.{AllBelow, may_change_global, IsScoped, KeptFile, Kept, IsResult, Returned, IsAt, Comes}
 use Rattle.plain_runs.specs.Laws.{shape, Keeps}

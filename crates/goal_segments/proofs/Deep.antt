@@ -9,8 +9,7 @@ use Rattle.c_runs.specs.Claims.{claimed, in_body, in_loop, measure_of}
 use Rattle.core_runs.specs.Run.{CoreWorld, Ending, goes_on}
 use Rattle.core_checks.specs.Tree.{Step, repeat, Steps}
 use Rattle.core_checks.specs.Run as run
-use Rattle.plain_states.specs.Slots.{State, world_in, core_in}
-use Rattle.plain_states.specs.Scopes.{is_integer}
+use Rattle.plain_runs.specs.Told.{State, world_in, core_in, is_integer}
 use Rattle.plain_runs.specs.Fitting.{Shape, sizes, Fit, is_param, FitsStep, FitsProgram}
 use Rattle.plain_runs.specs.Kept.{AllBelow, some_sets, some_temps, IsScoped, Kept}
 use Rattle.plain_runs.specs.Laws.{shape}

@@ -17,9 +17,8 @@ use Rattle.core_checks.specs.Tree.{Step, Steps, then_}
 use Rattle.core_checks.specs.Run as run
 use Rattle.segments.specs.Segments.{Asks, all_met, met, unmet, BlockEnds, Leaves, by_exit, by_return, by_stop}
 use Rattle.segments.specs.Segments as segment
-use Rattle.plain_states.specs.Scopes.{is_integer, are_one_integer, kind_in, kind_of}
-use Rattle.plain_states.proofs.Scoping.{listed_integer, cell_of_integer, content_number}
-use Rattle.plain_states.proofs.Entering.{when_true}
+use Rattle.plain_runs.specs.Told.{is_integer, are_one_integer, kind_in, kind_of}
+use Rattle.plain_runs.proofs.Told.{listed_integer, cell_of_integer, content_number, when_true}
 use Rattle.plain_runs.proofs.Scopes.{on_bool}
 use Rattle.goal_segments.specs.Segments.{IsAny, Opened, all_opened, unknown, with_value, not_set, Seg, AllSeg, goes, stays}
 

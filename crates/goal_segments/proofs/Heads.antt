@@ -20,11 +20,9 @@ use Rattle.c_runs.specs.Allowed.{SetAllows, PartAllows, AllAllow, MayChange}
 use Rattle.core_runs.specs.Run.{CoreWorld}
 use Rattle.rte_checks.specs.Tests.{is_set_by}
 use Rattle.core_checks.specs.Tree.{Steps}
-use Rattle.plain_states.specs.Slots.{State, Sizes, at, held, value_slot, local_value, local_flag, temp_slot, local_in, cell_in, memory_in, world_in, core_in}
-use Rattle.plain_states.specs.Scopes.{is_integer, are_one_integer, kind_in, kind_of}
-use Rattle.plain_states.proofs.Puts.{equal_is}
-use Rattle.plain_states.proofs.Scoping.{found_below, listed_integer, cell_of_integer}
-use Rattle.plain_states.proofs.Entering.{when_true}
+use Rattle.plain_runs.specs.Told.{State, Sizes, at, held, value_slot, local_value, local_flag, temp_slot, local_in, cell_in, memory_in, world_in, core_in}
+use Rattle.plain_runs.specs.Told.{is_integer, are_one_integer, kind_in, kind_of}
+use Rattle.plain_runs.proofs.Told.{equal_is, found_below, listed_integer, cell_of_integer, when_true}
 use Rattle.plain_runs.specs.Fitting.{IsGood, Shape, sizes, Fit}
 use Rattle.plain_runs.specs.Kept.{may_change_global, AllBelow, some_sets, some_temps, IsScoped, Unchanged, Kept}
 use Rattle.plain_runs.proofs.Scopes.{on_bool}

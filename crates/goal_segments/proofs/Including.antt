@@ -12,7 +12,7 @@ use Rattle.acsl_truth.specs.Allowed.{is_named}
 use Rattle.c_runs.specs.Program.{Facts, Loop, Behavior}
 use Rattle.c_runs.specs.States.{World, Here, Granted, hidden, plain_globals, seen}
 use Rattle.c_runs.specs.Claims.{may_change_local, lets_local, granted_by, granted_in, of_caller, in_body, in_loop, is_assumed, regions_of}
-use Rattle.plain_states.proofs.Puts.{equal_is}
+use Rattle.plain_runs.proofs.Told.{equal_is}
 use Rattle.plain_runs.specs.Kept.{may_change_global, AllBelow}
 use Rattle.plain_runs.proofs.Sets.{high_may, callers_globals, callers_below, below_both, below_more, one_below}
 use Rattle.plain_runs.proofs.Scopes.{on_bool}

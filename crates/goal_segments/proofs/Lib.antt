@@ -9,3 +9,4 @@ pub mod Calls
 pub mod Statements
 pub mod Runs
 pub mod Spelled
+pub mod Told

@@ -11,8 +11,7 @@ use Rattle.core_runs.specs.Run.{CoreWorld, Ending, goes_on, exits, returns, stop
 use Rattle.core_checks.specs.Tree.{Step, repeat, Steps}
 use Rattle.core_checks.specs.Run as run
 use Rattle.segments.specs.Segments.{by_exit, by_return, by_stop}
-use Rattle.plain_states.specs.Slots.{State, world_in, core_in}
-use Rattle.plain_states.specs.Scopes.{is_integer}
+use Rattle.plain_runs.specs.Told.{State, world_in, core_in, is_integer}
 use Rattle.plain_runs.specs.Fitting.{IsGood, Shape, sizes, Fit, FitsStep, FitsProgram}
 use Rattle.plain_runs.specs.Kept.{AllBelow, some_sets, some_temps, IsScoped, Kept, Returned, Comes}
 use Rattle.plain_runs.proofs.Keeping.{kept_then}

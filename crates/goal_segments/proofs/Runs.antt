@@ -13,7 +13,7 @@ use Rattle.c_runs.specs.Run as spelled
 use Rattle.core_runs.specs.Run.{stopped, begun}
 use Rattle.core_checks.specs.Tree.{Steps}
 use Rattle.core_checks.specs.Run as run
-use Rattle.plain_states.specs.Slots.{State, world_in}
+use Rattle.plain_runs.specs.Told.{State, world_in}
 use Rattle.plain_runs.specs.Fitting.{IsGood, Shape, sizes, AreOf, is_param, FitsProgram}
 use Rattle.plain_runs.specs.Kept.{AllBelow}
 use Rattle.plain_runs.specs.Laws.{shape, Keeps}

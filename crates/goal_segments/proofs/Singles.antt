@@ -19,8 +19,8 @@ use Rattle.core_runs.specs.Run.{CoreWorld, Ending, goes_on, with_eval, in_world}
 use Rattle.rte_checks.specs.Checks.{Check}
 use Rattle.core_checks.specs.Tree.{Goal, nowhere, temporary, place, variable as to_variable, Step, set, store, start, call, branch, repeat, around, exit, give, claim, scope, Steps}
 use Rattle.core_checks.specs.Run as run
-use Rattle.plain_states.specs.Scopes.{is_integer, are_one_integer}
-use Rattle.plain_states.proofs.Scoping.{found_below, listed_integer}
+use Rattle.plain_runs.specs.Told.{is_integer, are_one_integer}
+use Rattle.plain_runs.proofs.Told.{found_below, listed_integer}
 use Rattle.plain_runs.specs.Fitting.{Shape, LeadsTo, to_local, to_global, Receives, by_temporary, by_place, by_variable, FitsStep}
 use Rattle.plain_runs.proofs.Objects.{home_is}
 use Rattle.plain_runs.proofs.Whole.{all_plain}

@@ -5,7 +5,7 @@ use Rattle.acsl_truth.specs.States.{Value}
 use Rattle.c_runs.specs.Program.{Stmts, Function, Program}
 use Rattle.c_runs.specs.States.{Memory}
 use Rattle.c_runs.specs.Entry.{Enters}
-use Rattle.normal_stmts.specs.Normal.{normal_function, normal}
+use Rattle.core_checks.specs.Told.{normal_function, normal}
 use Rattle.core_checks.specs.Adding.{function_of, add_checks}
 use Rattle.segments.proofs.Whole.{spelled_is}
 use Rattle.goal_segments.specs.Laws.{GoesWell, ModularAsSpelled}

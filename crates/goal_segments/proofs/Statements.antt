@@ -17,9 +17,8 @@ use Rattle.core_checks.specs.Tree.{Goal, nowhere, temporary, Step, set, store, s
 use Rattle.core_checks.specs.Run as run
 use Rattle.core_checks.specs.Run.{is_met_in}
 use Rattle.segments.specs.Segments.{Asks, stopped_in, by_exit, by_return, by_stop}
-use Rattle.plain_states.specs.Slots.{State, memory_in, world_in, core_in}
-use Rattle.plain_states.specs.Scopes.{is_integer, scope_state, scope_contents}
-use Rattle.plain_states.proofs.Scoping.{enters_scope}
+use Rattle.plain_runs.specs.Told.{State, memory_in, world_in, core_in, is_integer, scope_state, scope_contents}
+use Rattle.plain_runs.proofs.Told.{enters_scope}
 use Rattle.plain_runs.specs.Fitting.{IsGood, Shape, sizes, Fit, AreOf, with_names, by_temporary, Calls, for_none, for_nothing, for_result, FitsStep, FitsSteps, FitsProgram}
 use Rattle.plain_runs.specs.Kept.{AllBelow, sets, temps, some_sets, some_temps, IsScoped, Kept, Returned, Comes}
 use Rattle.plain_runs.specs.Laws.{Keeps}

@@ -7,7 +7,7 @@ use Rattle.c_runs.specs.Claims.{Stop, spent, undefined, failed}
 use Rattle.c_runs.specs.Calls.{Eval, gives, stops}
 use Rattle.c_runs.specs.Entry.{Enters}
 use Rattle.c_runs.specs.Run as spelled
-use Rattle.normal_stmts.specs.Normal.{normal}
+use Rattle.core_checks.specs.Told.{normal}
 use Rattle.core_checks.specs.Adding.{add_checks}
 use Rattle.core_checks.specs.Tree.{Step, set, store, start, call, branch, repeat, around, exit, give, claim, scope, Steps, end, then_}
 use Rattle.core_checks.specs.Run.{run_function}

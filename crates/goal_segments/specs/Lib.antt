@@ -1,3 +1,4 @@
 pub mod Sets
 pub mod Segments
 pub mod Laws
+pub mod Told

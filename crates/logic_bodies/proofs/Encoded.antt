@@ -15,8 +15,7 @@ use Rattle.qed_terms.specs.Tree.{var}
 use Rattle.acsl_encode.specs.Readings.{Global, integer_global, pointer_global, Slot, whole, any_integer, pointer, home, absent, Seen, truth, nothing, Reading}
 use Rattle.acsl_encode.specs.Encode.{Names, with_one, all_of, in_chain, of_variable, held, read, applied, called, binders, encoded, all_encoded, as_integer}
 use Rattle.acsl_encode.specs.Setting.{body_reading, names_of, slot_in}
-use Rattle.plain_annotations.specs.Settings.{shared}
-use Rattle.logic_order.specs.Simple.{node_is_simple, is_simple, are_simple}
+use Rattle.logic_trees.specs.Told.{shared, node_is_simple, is_simple, are_simple}
 use Rattle.logic_trees.specs.Heads.{first_global}
 use Rattle.logic_bodies.specs.Bodies.{reading_with, read_by, body_terms, all_terms}
 use Rattle.logic_bodies.specs.Laws.{BodiesAreEncoded}

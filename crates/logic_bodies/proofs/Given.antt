@@ -14,7 +14,7 @@ use Rattle.acsl_encode.specs.Encode.{put, all_put, global_of, memory_of}
 use Rattle.acsl_encode.specs.Setting.{Known, slot_in}
 use Rattle.acsl_encode.specs.Told.{number_of}
 use Rattle.annotation_heads.specs.Gathered.{given_if}
-use Rattle.plain_annotations.specs.Settings.{shared}
+use Rattle.logic_trees.specs.Told.{shared}
 use Rattle.logic_bodies.specs.Bodies.{reading_with, found_in, slot_of, wanted}
 use Rattle.logic_bodies.proofs.Naming.{slot_found}
 

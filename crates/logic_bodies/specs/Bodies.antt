@@ -13,7 +13,7 @@ use Rattle.acsl_encode.specs.Readings.{Global, integer_global, pointer_global, S
 use Rattle.acsl_encode.specs.Encode.{Names, with_one, all_of, in_chain, held, applied, called, integer_of, pointer_in}
 use Rattle.acsl_encode.specs.Setting.{Known, body_reading}
 use Rattle.acsl_encode.specs.Told.{number_of}
-use Rattle.logic_order.specs.Simple.{node_is_simple}
+use Rattle.logic_trees.specs.Told.{node_is_simple}
 use Rattle.logic_trees.specs.Heads.{first_global}
 
 -- the reading of a body that is given these variables and no memories

@@ -5,8 +5,7 @@ use Rattle.c_runs.specs.Program.{Facts}
 use Rattle.acsl_encode.specs.Readings.{Called}
 use Rattle.acsl_encode.specs.Encode.{as_integer}
 use Rattle.acsl_encode.specs.Setting.{Known, names_of, body_term}
-use Rattle.plain_annotations.specs.Settings.{shared}
-use Rattle.logic_order.specs.Simple.{is_simple}
+use Rattle.logic_trees.specs.Told.{shared, is_simple}
 use Rattle.logic_bodies.specs.Bodies.{reading_with, body_terms}
 
 -- of a function that is given no memories

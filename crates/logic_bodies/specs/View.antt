@@ -2,7 +2,7 @@
 use Rattle.std.specs.Prelude.{List, map}
 use Rattle.std.specs.Borrow.{Bor}
 use Rattle.program_trees.specs.View.{view_facts}
-use Rattle.plain_annotations.specs.Settings.{shared}
+use Rattle.logic_trees.specs.Told.{shared}
 use Rattle.acsl_encode.specs.Readings as r
 use Rattle.acsl_encode.specs.Encode.{Names}
 use Rattle.acsl_encode.specs.Setting.{Known, names_of}

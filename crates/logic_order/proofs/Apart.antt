@@ -7,7 +7,7 @@ use Rattle.std.proofs.lemmas.Slice.Eq.{bytes_eq-Decides}
 use Rattle.acsl_encode.specs.Binders.{mark}
 use Rattle.acsl_encode.specs.Told.{Spelling}
 use Rattle.qed_terms.specs.Setting.{all_differ}
-use Rattle.program_steps.specs.Leaves.{after_as}
+use Rattle.plain_annotations.specs.Told.{after_as}
 use Rattle.logic_order.specs.Names.{spelling_or, spelled_in, is_unmarked, name_in, are_apart}
 
 as_many : (n : ℕ) (xs : List ℕ) → length (after_as n xs) ≡ n + length xs

@@ -6,7 +6,7 @@ use Rattle.qed_terms.specs.Setting.{all_differ}
 use Rattle.acsl_trees.specs.Tree as acsl
 use Rattle.acsl_encode.specs.Binders.{Spelled, mark}
 use Rattle.acsl_encode.specs.Told.{Spelling}
-use Rattle.program_steps.specs.Leaves.{after_as}
+use Rattle.plain_annotations.specs.Told.{after_as}
 use Rattle.plain_annotations.specs.Settings.{Names}
 
 -- logic functions by their numbers, and variables

@@ -1,2 +1,3 @@
 pub mod Verified
 mod Found
+pub mod Told

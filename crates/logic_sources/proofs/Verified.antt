@@ -5,21 +5,17 @@ use Rattle.std.specs.List.{list_all}
 use Rattle.c_grammar.specs.Decls.{SpellsLines}
 use Rattle.c_typing.specs.Typing.{typed_program}
 use Rattle.c_runs.specs.Program.{Function}
-use Rattle.c_programs.specs.Files.{notes_of, program_of}
+use Rattle.plain_sources.specs.Told.{notes_of, program_of, IsOfText, core_of, names_in, EachMeets, SetsStand}
 use Rattle.core_checks.specs.Tree.{Steps}
 use Rattle.walk_steps.specs.State.{In}
 use Rattle.plain_test.specs.Plain.{is_plain_file}
-use Rattle.plain_files.specs.Laws.{IsOfText}
-use Rattle.plain_programs.proofs.Variables.{is_found}
+use Rattle.plain_sources.proofs.Told.{is_found, core_found, body_in, files_in_order_meet, plain_texts_stand}
 use Rattle.plain_annotations.specs.Annotated.{is_annotated}
 use Rattle.plain_trees.specs.Taking.{taking}
 use Rattle.plain_trees.proofs.Texts_alike.{each_is_annotated}
 use Rattle.slot_names.specs.Bases.{are_fit}
 use Rattle.binder_names.specs.Tables.{is_named_table, named_in}
 use Rattle.binder_names.proofs.Naming.{names_fit}
-use Rattle.plain_goals.specs.Files.{core_of, names_in, EachMeets, SetsStand}
-use Rattle.plain_goals.proofs.Files.{core_found, body_in, files_in_order_meet}
-use Rattle.plain_goals.proofs.Standing.{plain_texts_stand}
 use Rattle.plain_sources.specs.Sources.{Source}
 use Rattle.plain_sources.specs.Built.{table_in, facts_in, first_names, loops_fit, sets_fit}
 use Rattle.plain_sources.proofs.Verified.{read, names_are}

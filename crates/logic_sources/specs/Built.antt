@@ -9,7 +9,7 @@ use Rattle.plain_annotations.specs.Annotated.{is_annotated}
 use Rattle.plain_annotations.specs.Settings.{Names}
 use Rattle.program_steps.specs.Terms.{Texts}
 use Rattle.slot_names.specs.Bases.{Name, are_fit}
-use Rattle.plain_goals.specs.Files.{core_of, texts_of_file, names_in}
+use Rattle.plain_sources.specs.Told.{core_of, texts_of_file, names_in}
 use Rattle.plain_trees.specs.Taking.{taking}
 use Rattle.binder_names.specs.Tables.{named_in, is_named_table}
 use Rattle.plain_sources.specs.Sources.{Source}

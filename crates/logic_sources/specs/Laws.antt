@@ -6,8 +6,7 @@ use Rattle.c_syntax.specs.Decl as d
 use Rattle.c_grammar.specs.Decls.{Lines, SpellsLines}
 use Rattle.c_kinds.specs.declared.models.Machdep.{Machdep}
 use Rattle.qed_terms.specs.Setting.{is_regular}
-use Rattle.plain_goals.specs.Files.{setting_of_file}
-use Rattle.plain_goals.specs.Laws.{IsMet}
+use Rattle.plain_sources.specs.Told.{setting_of_file, IsMet}
 use Rattle.plain_sources.specs.Sources.{Source, source_of}
 use Rattle.logic_sources.specs.Built.{names_of, is_verified}
 

@@ -1,3 +1,4 @@
 pub mod Heads
 pub mod Asking
 pub mod Every
+pub mod Told

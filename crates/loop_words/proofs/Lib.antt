@@ -10,3 +10,4 @@ pub mod Heads
 pub mod Checking
 pub mod Loops
 pub mod Worked
+pub mod Told

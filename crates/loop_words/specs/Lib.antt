@@ -3,3 +3,4 @@ pub mod Words
 pub mod Fits
 pub mod Laws
 pub mod Examples
+pub mod Told

@@ -1,6 +1,6 @@
 -- How core statements end beside spelled ones.
 use Rattle.std.proofs.Common.{◌≡◌, ℕ, zero, suc, true, false, if◌then◌else◌, List, Option, Some, None, refl, ap, subst}
-use Rattle.acsl_truth.specs.States.{Value}
+use Rattle.c_runs.specs.Told.{Value}
 use Rattle.c_runs.specs.States.{World, Memory, is_nonzero}
 use Rattle.c_runs.specs.Values.{Temps}
 use Rattle.c_runs.specs.Claims.{Stop, spent}

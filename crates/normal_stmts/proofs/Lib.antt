@@ -14,3 +14,4 @@ pub mod Performed
 pub mod Switches
 pub mod Statements
 pub mod Outcomes
+pub mod Told

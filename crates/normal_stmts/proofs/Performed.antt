@@ -8,7 +8,7 @@ use Rattle.typed_prog.specs.declared.operators.UpdateForm.{UpdateForm}
 use Rattle.typed_prog.specs.declared.operators.UpdateForm.TheVariants as form
 use Rattle.typed_prog.specs.declared.operators.Effect.TheVariants as effect
 use Rattle.typed_prog.specs.Tree as t
-use Rattle.acsl_truth.specs.States.{Value}
+use Rattle.c_runs.specs.Told.{Value}
 use Rattle.c_runs.specs.Program.{Variable, Program}
 use Rattle.c_runs.specs.States.{World, Here}
 use Rattle.c_runs.specs.Operators.{is, wrong}

@@ -5,7 +5,7 @@ use Rattle.std.specs.Prelude.{pos}
 use Rattle.typed_prog.specs.declared.types.CoreType.{CoreType}
 use Rattle.typed_prog.specs.declared.operators.Connective.{Connective}
 use Rattle.typed_prog.specs.Tree as tree
-use Rattle.acsl_truth.specs.States.{Value, number}
+use Rattle.c_runs.specs.Told.{Value, number}
 use Rattle.c_runs.specs.Program.{Variable, Program}
 use Rattle.c_runs.specs.States.{World, Here, at, is_nonzero}
 use Rattle.c_runs.specs.Operators.{Val, is, wrong, truth_number}

@@ -5,7 +5,7 @@ use Rattle.typed_prog.specs.declared.types.CoreType.{CoreType}
 use Rattle.typed_prog.specs.declared.operators.Connective.{Connective}
 use Rattle.typed_prog.specs.declared.operators.Op.{Op}
 use Rattle.typed_prog.specs.Tree as tree
-use Rattle.acsl_truth.specs.States.{Value, number, null}
+use Rattle.c_runs.specs.Told.{Value, number, null}
 use Rattle.c_runs.specs.Program.{Facts, Variable, Program}
 use Rattle.c_runs.specs.States.{World, Here, is_nonzero}
 use Rattle.c_runs.specs.Operators.{Undefined, init, Val, is, wrong, then_val, truth_number}

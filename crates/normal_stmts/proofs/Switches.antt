@@ -4,7 +4,7 @@ use Rattle.std.proofs.lemmas.Bool.{false≢true}
 use Rattle.std.proofs.lemmas.Int.{ints}
 use Rattle.typed_prog.specs.Tree as t
 use Rattle.qed_terms.specs.Operators.{is_zero, is_equal}
-use Rattle.acsl_truth.specs.States.{Value, number_of}
+use Rattle.c_runs.specs.Told.{Value, number_of}
 use Rattle.c_runs.specs.Program.{Stmt, evaluate, block, initial, choose, loop, switch, case_of, default, break, continue, return_of, assert, Stmts, stop, more, Variable, Program}
 use Rattle.c_runs.specs.States.{World, Here}
 use Rattle.c_runs.specs.Operators.{Val, is, wrong, truth_number}

@@ -3,7 +3,7 @@ use Rattle.std.proofs.Common.{◌≡◌, ℕ, Bool, true, false, ◌||◌, if◌
 use Rattle.std.proofs.lemmas.Bool.{false≢true}
 use Rattle.typed_prog.specs.declared.types.CoreType.{CoreType}
 use Rattle.typed_prog.specs.Tree as tree
-use Rattle.acsl_truth.specs.States.{Value}
+use Rattle.c_runs.specs.Told.{Value}
 use Rattle.c_runs.specs.Program.{Facts, Variable, Program}
 use Rattle.c_runs.specs.States.{World, Here}
 use Rattle.c_runs.specs.Operators.{Val, is}

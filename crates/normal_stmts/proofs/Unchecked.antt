@@ -16,8 +16,7 @@ use Rattle.typed_prog.specs.declared.operators.Step.{Step}
 use Rattle.typed_prog.specs.declared.operators.Step.TheVariants as step
 use Rattle.typed_prog.specs.Tree as tree
 use Rattle.qed_terms.specs.Operators.{is_zero, is_equal}
-use Rattle.acsl_truth.specs.States.{Value, number, null, number_of}
-use Rattle.acsl_truth.specs.Truth.{first, second, compare_pointers}
+use Rattle.c_runs.specs.Told.{Value, number, null, number_of, first, second, compare_pointers}
 use Rattle.c_runs.specs.Program.{Facts, Variable}
 use Rattle.c_runs.specs.States.{Local, plain, home, World}
 use Rattle.c_runs.specs.Operators.{Undefined, init, overflow, divzero, access, pointing, comparing, Val, is, wrong, where_true, truth_number, may_divide, arithmetic, computed, within, fits, is_order, pointed, pointed_unless}

@@ -7,8 +7,7 @@ use Rattle.typed_prog.specs.declared.operators.Change.TheVariants as change
 use Rattle.typed_prog.specs.declared.operators.Op.TheVariants as op
 use Rattle.typed_prog.specs.Types.{of_kind}
 use Rattle.typed_prog.specs.Tree as tree
-use Rattle.acsl_truth.specs.States.{Value}
-use Rattle.acsl_truth.specs.Truth.{first}
+use Rattle.c_runs.specs.Told.{Value, first}
 use Rattle.c_runs.specs.Program.{Facts, Variable}
 use Rattle.c_runs.specs.States.{World, Here}
 use Rattle.c_runs.specs.Operators.{Val, is, wrong, then_val}

@@ -1,7 +1,7 @@
 -- What is promised of the core program.
 use Rattle.std.specs.Prelude.{◌≡◌, ℕ, Bool, true, ◌&&◌, List, Option, Some, None}
 use Rattle.typed_prog.specs.Tree.{Value}
-use Rattle.acsl_truth.specs.States.{Value as Held}
+use Rattle.c_runs.specs.Told.{Value as Held}
 use Rattle.c_runs.specs.Program.{Stmts, Variable, Program}
 use Rattle.c_runs.specs.States.{Memory}
 use Rattle.c_runs.specs.Run as spelled

@@ -1,3 +1,4 @@
 pub mod Plans
 pub mod Normal
 pub mod Laws
+pub mod Told

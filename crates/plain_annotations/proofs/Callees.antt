@@ -15,7 +15,7 @@ use Rattle.c_runs.specs.Program as program
 use Rattle.c_runs.specs.Program.{Facts}
 use Rattle.plain_states.specs.Slots.{State}
 use Rattle.plain_states.specs.Scopes.{kind_of}
-use Rattle.plain_runs.specs.Fitting.{Shape}
+use Rattle.program_steps.specs.Told.{Shape}
 use Rattle.acsl_encode.specs.Readings.{Terms, Slot, whole, absent, Seen}
 use Rattle.acsl_encode.specs.Meaning.{Holds, SlotStands, SeenStands, Stands}
 use Rattle.acsl_encode.specs.WellFormed.{SlotFits, SeenFits}

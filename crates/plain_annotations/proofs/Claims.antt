@@ -12,7 +12,7 @@ use Rattle.acsl_truth.specs.States as labelled
 use Rattle.qed_terms.specs.Meaning as sense
 use Rattle.c_runs.specs.Program.{Facts}
 use Rattle.plain_states.specs.Slots.{State, at, result_slot}
-use Rattle.plain_runs.specs.Fitting.{Shape, sizes}
+use Rattle.program_steps.specs.Told.{Shape, sizes}
 use Rattle.acsl_encode.specs.Readings.{Terms, integer, nothing}
 use Rattle.acsl_encode.specs.Meaning.{SeenStands, Stands, Means}
 use Rattle.acsl_encode.specs.WellFormed.{TermsFit}

@@ -16,7 +16,7 @@ use Rattle.c_kinds.specs.declared.models.Machdep.{Machdep}
 use Rattle.c_kinds.specs.declared.models.Machdep.TheVariants as machdep
 use Rattle.c_kinds.specs.Models.{long_bits}
 use Rattle.c_runs.specs.Program.{Facts}
-use Rattle.plain_runs.specs.Fitting.{Shape}
+use Rattle.program_steps.specs.Told.{Shape}
 use Rattle.acsl_encode.specs.Readings.{Global, integer_global, pointer_global, Called, Common}
 use Rattle.acsl_encode.specs.Calls.{Given, AllAre, IsGlobal, Shares, CallsStand}
 use Rattle.acsl_encode.specs.Setting.{in_form, logic_at, logic_of, known_first, more_logic, logic_first}

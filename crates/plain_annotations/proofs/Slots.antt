@@ -19,7 +19,7 @@ use Rattle.c_runs.specs.Program as program
 use Rattle.c_runs.specs.Program.{Facts}
 use Rattle.plain_states.specs.Slots.{State, at, value_slot, local_value, local_flag}
 use Rattle.plain_states.specs.Scopes.{kind_of}
-use Rattle.plain_runs.specs.Fitting.{Shape, sizes}
+use Rattle.program_steps.specs.Told.{Shape, sizes}
 use Rattle.acsl_encode.specs.Readings.{Named, one, two, Global, integer_global, pointer_global, Called, Slot, whole, any_integer, Seen, Common}
 use Rattle.acsl_encode.specs.Encode.{all_put, global_of, integer_of}
 use Rattle.acsl_encode.specs.Meaning.{number_in, SlotStands}

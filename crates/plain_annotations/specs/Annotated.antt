@@ -5,7 +5,7 @@ use Rattle.wp_base.specs.declared.kinds.Kind.TheVariants as kind
 use Rattle.c_runs.specs.Program.{Behavior, Contract, Function, Facts}
 use Rattle.core_checks.specs.Tree as core
 use Rattle.core_checks.specs.Tree.{Steps}
-use Rattle.plain_runs.specs.Fitting.{Shape, shape_of}
+use Rattle.program_steps.specs.Told.{Shape, shape_of}
 use Rattle.program_steps.specs.Terms.{Texts}
 use Rattle.plain_annotations.specs.Claims.{is_body_claim}
 use Rattle.plain_annotations.specs.Clauses.{is_set, is_contract, is_loop}

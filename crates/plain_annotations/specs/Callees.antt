@@ -15,7 +15,7 @@ use Rattle.c_runs.specs.States.{hidden}
 use Rattle.c_runs.specs.Claims.{holds, number_at, struct_cells}
 use Rattle.plain_states.specs.Slots.{State, at, value_slot}
 use Rattle.plain_states.specs.Scopes.{kind_of}
-use Rattle.plain_runs.specs.Fitting.{Shape}
+use Rattle.program_steps.specs.Told.{Shape}
 use Rattle.acsl_encode.specs.Readings.{Terms, whole, absent, Seen, Reading}
 use Rattle.acsl_encode.specs.Encode.{formula_of, term_of}
 use Rattle.acsl_encode.specs.Meaning.{Means}

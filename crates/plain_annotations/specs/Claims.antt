@@ -5,7 +5,7 @@ use Rattle.acsl_trees.specs.Tree as acsl
 use Rattle.qed_terms.specs.Meaning as sense
 use Rattle.c_runs.specs.Program as program
 use Rattle.c_runs.specs.Program.{Facts}
-use Rattle.plain_runs.specs.Fitting.{Shape}
+use Rattle.program_steps.specs.Told.{Shape}
 use Rattle.program_steps.specs.Terms.{Texts}
 use Rattle.program_steps.specs.Placed.{InSetting}
 use Rattle.program_steps.specs.Typed.{ClaimFits, MeasureFits}

@@ -7,7 +7,7 @@ use Rattle.acsl_trees.specs.Tree.{Tree, node, stop, more}
 use Rattle.qed_terms.specs.Meaning as sense
 use Rattle.c_runs.specs.Program as program
 use Rattle.c_runs.specs.Program.{Claim, Measure, Behavior, Contract, Loop, Facts}
-use Rattle.plain_runs.specs.Fitting.{Shape}
+use Rattle.program_steps.specs.Told.{Shape}
 use Rattle.program_steps.specs.Terms.{Texts}
 use Rattle.program_steps.specs.Placed.{InSetting}
 use Rattle.program_steps.specs.Typed.{ClaimFits, MeasureFits}

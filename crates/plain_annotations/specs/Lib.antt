@@ -9,3 +9,4 @@ pub mod Settings
 pub mod Callees
 pub mod Arguments
 pub mod Annotated
+pub mod Told

@@ -14,7 +14,7 @@ use Rattle.qed_terms.specs.Names.{is_name}
 use Rattle.c_runs.specs.Program as program
 use Rattle.c_runs.specs.Program.{Facts}
 use Rattle.plain_states.specs.Scopes.{kind_of}
-use Rattle.plain_runs.specs.Fitting.{Shape}
+use Rattle.program_steps.specs.Told.{Shape}
 use Rattle.acsl_encode.specs.Readings.{Named, one, two, Global, integer_global, pointer_global, Called}
 use Rattle.acsl_encode.specs.Calls.{CallsStand}
 use Rattle.program_steps.specs.Terms.{Texts, common_of}

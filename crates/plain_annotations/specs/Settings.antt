@@ -13,7 +13,7 @@ use Rattle.c_runs.specs.Program.{Facts}
 use Rattle.c_runs.specs.States.{hidden}
 use Rattle.c_runs.specs.Claims.{struct_cells}
 use Rattle.plain_states.specs.Scopes.{kind_of}
-use Rattle.plain_runs.specs.Fitting.{Shape}
+use Rattle.program_steps.specs.Told.{Shape}
 use Rattle.acsl_encode.specs.Readings.{Global, integer_global, Called, Common}
 use Rattle.acsl_encode.specs.Binders.{Spelled, numbered}
 use Rattle.acsl_encode.specs.Setting.{setting_of, known_of}

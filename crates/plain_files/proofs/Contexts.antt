@@ -23,7 +23,7 @@ use Rattle.typed_unit.specs.Stmt as s
 use Rattle.acsl_notes.specs.Notes.{Note}
 use Rattle.c_typed_stmts.specs.Judgement as j
 use Rattle.c_typed_stmts.specs.Judgement.{IsLocal, AreLocals, IsTyped, AreTyped, AreLabelled}
-use Rattle.c_programs.specs.Bodies.{number_of, declared_by, variables_in, declared_behind, placed, all_placed, behind}
+use Rattle.plain_programs.specs.Told.{number_of, declared_by, variables_in, declared_behind, placed, all_placed, behind}
 use Rattle.plain_programs.proofs.Growing.{stmt_grows}
 use Rattle.plain_files.specs.Blocks.{is_declaration, Nests, AllNest, NoneDeclares}
 use Rattle.plain_files.proofs.Names.{around_more, around_declared, declared_in_means, entered_means}

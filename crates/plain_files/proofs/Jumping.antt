@@ -11,8 +11,7 @@ use Rattle.c_typed_stmts.specs.Judgement.{IsTyped, AreTyped, AreLabelled}
 use Rattle.c_typed_files.specs.Functions as body_of
 use Rattle.c_typed_files.specs.Functions.{IsBody}
 use Rattle.c_runs.specs.Program.{Stmts, loop, stop, more}
-use Rattle.c_programs.specs.Bodies.{one, then_, whole, initials, initial_of, clauses_at, placed, all_placed, behind}
-use Rattle.c_programs.specs.Clauses.{loop_with}
+use Rattle.plain_programs.specs.Told.{one, then_, whole, initials, initial_of, clauses_at, placed, all_placed, behind, loop_with}
 use Rattle.plain_files.specs.Blocks.{JumpsStand, AllJumpsStand}
 use Rattle.plain_normal.specs.Jumps.{Jumps, AllJump}
 

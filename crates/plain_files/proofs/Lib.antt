@@ -13,3 +13,4 @@ pub mod Texts
 pub mod Variables
 pub mod Typed
 pub mod Whole
+pub mod Told

@@ -18,8 +18,8 @@ use Rattle.c_typed_stmts.specs.Judgement.{IsLocal, AreLocals, IsReturned, IsType
 use Rattle.c_typed_files.specs.Functions as body_of
 use Rattle.c_typed_files.specs.Functions.{IsBody}
 use Rattle.c_runs.specs.Program.{Loop, Stmt, evaluate, block, initial, choose, loop, switch, return_of, Stmts, stop, more}
-use Rattle.c_programs.specs.Bodies.{one, then_, whole, initials, initial_of, number_of, declared_by, variables_in, clauses_at, placed, all_placed, behind}
-use Rattle.c_programs.specs.Clauses.{loop_with}
+use Rattle.plain_programs.specs.Told.{one, then_, whole, initials, initial_of, number_of, declared_by, variables_in, clauses_at, placed, all_placed, behind}
+use Rattle.plain_programs.specs.Told.{loop_with}
 use Rattle.plain_runs.specs.Fitting.{with_names, is_param}
 use Rattle.plain_normal.specs.Plain.{up_to}
 use Rattle.plain_programs.specs.Values.{stands}

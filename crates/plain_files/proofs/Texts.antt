@@ -17,8 +17,8 @@ use Rattle.acsl_definitions.specs.Definitions.{definition_typed}
 use Rattle.acsl_typing.specs.Annotations as an
 use Rattle.acsl_typing.specs.Annotations.{Annotation, of_function, of_definition, Annotations, Annotating, before_of, part_by, part_annotated, parts_annotated, file_annotated}
 use Rattle.acsl_annotated.specs.Annotated.{item_expanded, items_from, behind, all_expanded, meant_from, file_expanded}
-use Rattle.c_programs.specs.Clusters.{at}
-use Rattle.c_programs.specs.Files.{notes_in, notes_of, Text, text_of, clauses_for, function_with, function_of, functions_from, functions_of, program_of}
+use Rattle.plain_programs.specs.Told.{at, notes_in, notes_of, Text, text_of, clauses_for, function_with, function_of, functions_from, functions_of}
+use Rattle.plain_programs.specs.Told.{program_of}
 use Rattle.plain_files.proofs.Names.{some_is, no_some}
 use Rattle.plain_files.proofs.Declaring.{ok_is, gives}
 use Rattle.plain_files.proofs.Bodies.{All, bodies_in, all_bodies_in, FileIs}

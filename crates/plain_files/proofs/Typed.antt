@@ -15,7 +15,7 @@ use Rattle.c_typed_files.specs.Functions as rules
 use Rattle.c_typed_files.specs.Functions.{IsBody}
 use Rattle.acsl_typing.specs.Annotations.{Annotations}
 use Rattle.c_runs.specs.Program.{Stmts, Variable, Function}
-use Rattle.c_programs.specs.Files.{Text, values_of, variables_from, clauses_for, notes_of, text_of, function_with, result_of, program_of}
+use Rattle.plain_programs.specs.Told.{Text, values_of, variables_from, clauses_for, notes_of, text_of, function_with, result_of, program_of}
 use Rattle.plain_states.specs.Scopes.{kind_of}
 use Rattle.plain_runs.specs.Fitting.{is_param}
 use Rattle.plain_test.specs.Plain.{are_plain_objects, is_plain_stmt, is_plain_body, is_plain_file}

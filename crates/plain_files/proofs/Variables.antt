@@ -8,7 +8,7 @@ use Rattle.typed_prog.specs.Types.{kind_by, type_with, of_kind}
 use Rattle.c_scopes.specs.declared.symbols.Object.{Object}
 use Rattle.c_scopes.specs.declared.symbols.Structure.{Structure}
 use Rattle.c_scopes.specs.Extents.{element_cells}
-use Rattle.c_programs.specs.Files.{or_none, variable_of, variables_from}
+use Rattle.plain_programs.specs.Told.{or_none, variable_of, variables_from}
 use Rattle.plain_states.specs.Scopes.{kind_in}
 use Rattle.plain_test.specs.Plain.{is_integer_type, are_plain_objects}
 use Rattle.plain_programs.specs.Values.{Holds}

@@ -8,7 +8,7 @@ use Rattle.c_typing.specs.Typing.{typed_program}
 use Rattle.typed_unit.specs.Unit as u
 use Rattle.acsl_typing.specs.Annotations.{Annotations}
 use Rattle.acsl_annotated.specs.Annotated.{file_expanded}
-use Rattle.c_programs.specs.Files.{program_of}
+use Rattle.plain_programs.specs.Told.{program_of}
 use Rattle.normal_stmts.specs.Normal.{normal}
 use Rattle.core_checks.specs.Adding.{add_checks}
 use Rattle.plain_runs.specs.Fitting.{FitsProgram}

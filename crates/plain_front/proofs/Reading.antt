@@ -15,7 +15,7 @@ use Rattle.c_parser.proofs.Exact.{one_program, Says, outcome_says}
 use Rattle.parse_file.proofs.Parts.{parts}
 use Rattle.c_kinds.specs.declared.models.Machdep.{Machdep}
 use Rattle.c_answers.specs.Answers.{Answer, Gives}
-use Rattle.plain_sources.specs.Sources.{Source, source_of}
+use Rattle.logic_sources.specs.Told.{Source, source_of}
 use Rattle.logic_sources.specs.Built.{is_verified}
 use Rattle.plain_front.specs.Text.{Spells, HasFault, unlexed, unspelled, past, untyped, unbuilt, SpellsOrHasFault}
 

@@ -2,7 +2,7 @@
 use Rattle.std.specs.Prelude.{◌≡◌, ℕ, List}
 use Rattle.wp_base.specs.declared.answers.Refusal.{Refusal}
 use Rattle.c_kinds.specs.declared.models.Machdep.{Machdep}
-use Rattle.plain_sources.specs.Sources.{Source}
+use Rattle.logic_sources.specs.Told.{Source}
 use Rattle.plain_front.specs.Text.{Spells, HasFault, SpellsOrHasFault}
 
 -- What a text is read as is determined; a text that is read has no fault, and no text has two; and each is read or has one.

@@ -8,7 +8,7 @@ use Rattle.c_lexer.specs.Tokens.{tokens_of}
 use Rattle.c_grammar.specs.Decls.{IsUnspelledOn}
 use Rattle.c_kinds.specs.declared.models.Machdep.{Machdep}
 use Rattle.c_parser.specs.Outcome.{SpellsWithin, SpellsPast, SpellsNone}
-use Rattle.plain_sources.specs.Sources.{Source, source_of}
+use Rattle.logic_sources.specs.Told.{Source, source_of}
 use Rattle.logic_sources.specs.Built.{is_verified}
 
 -- Its tokens spell a tree within the limits, whose names and types are in order with this data model, in annotations too, and that is verified.

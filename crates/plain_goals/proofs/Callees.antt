@@ -38,8 +38,8 @@ use Rattle.plain_annotations.specs.Callees.{IsOpen, IsView, Sees, IsResult, Sees
 use Rattle.plain_annotations.specs.Claims.{is_claim, is_body_claim, is_promise}
 use Rattle.plain_annotations.specs.Clauses.{is_set, is_measure, are_claims, is_behavior, is_contract}
 use Rattle.plain_annotations.specs.Places.{are_none, TextsFit}
-use Rattle.call_words.specs.Callee.{reading_at, terms_at, argument, param_slot, callee_seen}
-use Rattle.call_words.specs.Fits.{CalleeSees, numbers_at, SeenCall, EntryFits, PromiseFits, EntryMeasureFits, FileRegionFits, FileSetFits, CalleeBehaviorFits, IfMeasured, CalleeFits}
+use Rattle.plain_words.specs.Told.{reading_at, terms_at, argument, param_slot, callee_seen, CalleeSees, numbers_at, SeenCall, EntryFits, PromiseFits}
+use Rattle.plain_words.specs.Told.{EntryMeasureFits, FileRegionFits, FileSetFits, CalleeBehaviorFits, IfMeasured, CalleeFits}
 use Rattle.plain_annotations.specs.Annotated.{sets_of_file}
 use Rattle.plain_annotations.proofs.Arguments.{operands_are_open}
 use Rattle.plain_annotations.proofs.Callees.{callees_fit}

@@ -14,7 +14,7 @@ use Rattle.typed_unit.specs.Unit as u
 use Rattle.acsl_notes.specs.Notes.{Note}
 use Rattle.acsl_typing.specs.Annotations.{Annotations}
 use Rattle.c_runs.specs.Program.{Stmts, Function, Program}
-use Rattle.c_programs.specs.Files.{Text, text_of, values_of, program_of}
+use Rattle.plain_files.specs.Told.{Text, text_of, values_of, program_of}
 use Rattle.normal_stmts.specs.Normal.{normal_function}
 use Rattle.core_checks.specs.Adding.{function_of}
 use Rattle.core_checks.specs.Tree.{Steps}
@@ -31,7 +31,7 @@ use Rattle.program_goals.specs.Programs.{FunctionIn, ProgramFits}
 use Rattle.plain_words.specs.Temporaries.{temporaries_in}
 use Rattle.plain_goals.specs.Files.{names_in, own_names, written_for, written_by, core_of, text_at, setting_of_file, texts_of_file, written_of}
 use Rattle.plain_goals.specs.Laws.{FilesInOrderMeet, FilesWithoutRecursionMeet, IsMet, PlainTextsHaveGoals}
-use Rattle.plain_programs.proofs.Variables.{is_found}
+use Rattle.plain_files.proofs.Told.{is_found}
 use Rattle.plain_files.proofs.Variables.{as_many}
 use Rattle.plain_files.proofs.Whole.{plain_texts_fit}
 use Rattle.plain_annotations.proofs.Settings.{settings_fit, plain_settings_fit}

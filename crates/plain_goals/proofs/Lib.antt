@@ -5,3 +5,4 @@ pub mod Naming
 pub mod Standing
 pub mod Files
 pub mod Whole
+pub mod Told

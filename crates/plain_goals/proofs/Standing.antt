@@ -9,13 +9,13 @@ use Rattle.typed_unit.specs.Unit as u
 use Rattle.acsl_typing.specs.Annotations.{Annotations}
 use Rattle.c_runs.specs.Program.{Stmts, Function}
 use Rattle.c_runs.specs.Objects.{cell_by}
-use Rattle.c_programs.specs.Files.{result_of, program_of}
+use Rattle.plain_files.specs.Told.{result_of, program_of}
 use Rattle.plain_states.proofs.Scoping.{none_some}
 use Rattle.plain_states.proofs.Calling.{some_same}
 use Rattle.plain_test.specs.Plain.{is_value_type, is_plain_result, is_plain_file}
 use Rattle.plain_words.specs.Results.{ResultIsNumber}
 use Rattle.plain_goals.specs.Laws.{PlainTextsStand}
-use Rattle.plain_programs.proofs.Variables.{plain_parts, is_found}
+use Rattle.plain_files.proofs.Told.{plain_parts, is_found}
 use Rattle.plain_files.proofs.Whole.{plain_texts_are_plain, bodies_of_texts_jump}
 use Rattle.plain_words.proofs.Whole.{plain_programs_stand}
 

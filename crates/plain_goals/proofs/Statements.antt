@@ -18,7 +18,7 @@ use Rattle.program_steps.specs.Functions.{AllOf, SetFits}
 use Rattle.plain_annotations.specs.Clauses.{is_contract, is_loop, ContractFits}
 use Rattle.plain_annotations.specs.Places.{TextsFit}
 use Rattle.loop_words.specs.Fits as loops
-use Rattle.call_words.specs.Fits.{IfMeasured, CallerBehaviorFits, CallerFits, CallFits}
+use Rattle.plain_words.specs.Told.{IfMeasured, CallerBehaviorFits, CallerFits, CallFits}
 use Rattle.program_goals.specs.Words.{Written, shape_in, fits_of}
 use Rattle.plain_words.specs.Standing.{LoopStands, CallStands, StepStands, AllStand}
 use Rattle.plain_annotations.specs.Annotated.{own_shape, step_claims, all_claim, sets_of_file}

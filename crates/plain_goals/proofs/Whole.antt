@@ -4,7 +4,7 @@ use Rattle.wp_base.specs.declared.kinds.Kind.{Kind}
 use Rattle.typed_unit.specs.Unit as u
 use Rattle.acsl_typing.specs.Annotations.{Annotations}
 use Rattle.qed_terms.specs.Setting.{Valid}
-use Rattle.c_programs.specs.Files.{notes_of, program_of}
+use Rattle.plain_files.specs.Told.{notes_of, program_of}
 use Rattle.core_checks.specs.Tree.{Step, Steps, end, then_, set, store, start, call, branch, repeat, around, exit, give, claim, scope}
 use Rattle.goal_segments.specs.Laws.{calls_among, all_among}
 use Rattle.walk_steps.specs.State.{In}
@@ -13,7 +13,7 @@ use Rattle.plain_annotations.specs.Settings.{Names}
 use Rattle.program_goals.specs.Programs.{AllValid}
 use Rattle.plain_goals.specs.Files.{core_of, setting_of_file, texts_of_file, written_of, goals_at, body_goals, file_goals}
 use Rattle.plain_goals.specs.Laws.{ValidGoalsOfTextsRunWell, EachValid, ValidFilesRunWell, GoalsOfTextsAreExact, GoalsOfTextsAreTexts}
-use Rattle.plain_programs.proofs.Variables.{is_found}
+use Rattle.plain_files.proofs.Told.{is_found}
 use Rattle.program_goals.proofs.Exact.{goals_are_exact, goals_are_exact_for_runs, falsified_goals_fail}
 use Rattle.program_goals.proofs.Checks.{goals_are_exact_by_check, stops_have_goals}
 use Rattle.program_goals.proofs.Runs.{valid_goals_run_well}

@@ -7,7 +7,7 @@ use Rattle.acsl_trees.specs.Tree as acsl
 use Rattle.acsl_typing.specs.Annotations.{Annotations}
 use Rattle.qed_terms.specs.Setting.{Setting}
 use Rattle.c_runs.specs.Program.{Stmts, Function, Program}
-use Rattle.c_programs.specs.Files.{Text, notes_of, text_of, program_of}
+use Rattle.plain_files.specs.Told.{Text, notes_of, text_of, program_of}
 use Rattle.normal_stmts.specs.Normal.{normal}
 use Rattle.core_checks.specs.Adding.{add_checks}
 use Rattle.core_checks.specs.Tree.{Steps}

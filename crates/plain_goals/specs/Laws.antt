@@ -18,7 +18,7 @@ use Rattle.c_runs.specs.Claims.{Stop}
 use Rattle.c_runs.specs.Calls.{stops}
 use Rattle.c_runs.specs.Entry.{Enters}
 use Rattle.c_runs.specs.Run as spelled
-use Rattle.c_programs.specs.Files.{program_of}
+use Rattle.plain_files.specs.Told.{program_of}
 use Rattle.core_checks.specs.Tree.{Steps}
 use Rattle.goal_segments.specs.Segments.{FunctionSeg}
 use Rattle.goal_segments.specs.Laws.{IsClosed}

@@ -12,7 +12,7 @@ use Rattle.c_scopes.specs.declared.symbols.Structure.{Structure}
 use Rattle.c_scopes.specs.Extents.{element_cells}
 use Rattle.typed_unit.specs.Unit as u
 use Rattle.acsl_notes.specs.Notes.{Note}
-use Rattle.acsl_typing.specs.Annotations.{Annotations}
+use Rattle.c_programs.specs.Told.{Annotations}
 use Rattle.c_runs.specs.Program.{Stmts, Function}
 use Rattle.c_programs.specs.Clusters.{at}
 use Rattle.c_programs.specs.Files.{or_none, variables_from, Text, text_of, function_with, function_of, functions_from, functions_of, program_of, clauses_for, notes_of, values_of}

@@ -4,7 +4,7 @@ use Rattle.std.proofs.lemmas.Bool.{and_parts}
 use Rattle.c_scopes.specs.declared.symbols.Object.{Object}
 use Rattle.c_scopes.specs.declared.symbols.Structure.{Structure}
 use Rattle.typed_unit.specs.Unit as u
-use Rattle.acsl_typing.specs.Annotations.{Annotations}
+use Rattle.c_programs.specs.Told.{Annotations}
 use Rattle.c_runs.specs.Program.{Stmts, Function, Program}
 use Rattle.c_programs.specs.Files.{variables_from, clauses_for, notes_of, values_of, function_with, program_of}
 use Rattle.plain_runs.specs.Fitting.{is_param}

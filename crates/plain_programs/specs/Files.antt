@@ -7,7 +7,7 @@ use Rattle.c_variables.specs.Contexts.{around_of}
 use Rattle.typed_unit.specs.Stmt as s
 use Rattle.typed_unit.specs.Unit as u
 use Rattle.c_typed_stmts.specs.Judgement.{IsTyped, AreTyped}
-use Rattle.acsl_typing.specs.Annotations.{Annotations}
+use Rattle.c_programs.specs.Told.{Annotations}
 use Rattle.c_runs.specs.Program.{Stmts, Function, Program}
 use Rattle.c_programs.specs.Files.{Text, notes_of, text_of, clauses_for, function_with, result_of, program_of}
 use Rattle.normal_stmts.specs.Normal.{normal}

@@ -4,7 +4,7 @@ use Rattle.std.specs.List.{list_all}
 use Rattle.typed_unit.specs.Unit as u
 use Rattle.typed_prog.specs.Tree as t
 use Rattle.c_sequence.specs.Sequence.{Plain, sequenced}
-use Rattle.acsl_typing.specs.Annotations.{Annotations}
+use Rattle.c_programs.specs.Told.{Annotations}
 use Rattle.c_runs.specs.Program.{Stmts, Function}
 use Rattle.c_programs.specs.Files.{program_of}
 use Rattle.plain_states.specs.Scopes.{is_integer}

@@ -2,3 +2,4 @@ pub mod Values
 pub mod Standing
 pub mod Files
 pub mod Laws
+pub mod Told

@@ -20,11 +20,8 @@ use Rattle.program_goals.specs.Programs.{AllValid}
 use Rattle.plain_programs.proofs.Variables.{is_found}
 use Rattle.goal_report.specs.Report.{Judged, Reported, is_proved, goals_proved}
 use Rattle.goal_report.specs.Judging.{IsJudged, AreJudged}
-use Rattle.plain_goals.specs.Files.{FunctionGoals, core_of, setting_of_file, texts_of_file, written_of, goals_at, body_goals, file_goals}
-use Rattle.plain_goals.specs.Laws.{IsMet}
-use Rattle.plain_goals.proofs.Files.{core_found, body_in}
-use Rattle.plain_goals.proofs.Whole.{valid_goals_of_texts_run_well, goals_of_texts_are_exact}
-use Rattle.plain_sources.specs.Sources.{Source}
+use Rattle.logic_sources.specs.Told.{FunctionGoals, core_of, setting_of_file, texts_of_file, written_of, goals_at, body_goals, file_goals, IsMet, Source}
+use Rattle.logic_sources.proofs.Told.{core_found, body_in, valid_goals_of_texts_run_well, goals_of_texts_are_exact}
 use Rattle.logic_sources.specs.Built.{names_of}
 use Rattle.wp_words.specs.Command.{Wanted}
 use Rattle.plain_reports.specs.Reports.{says, IsReported, IsReportOf}

@@ -15,9 +15,7 @@ use Rattle.goal_segments.specs.Laws.{IsClosed}
 use Rattle.walk_steps.specs.Walk.{Goal, formula_of}
 use Rattle.program_goals.specs.Laws.{RunsWell}
 use Rattle.goal_report.specs.Report.{Judged, Reported, goals_proved}
-use Rattle.plain_goals.specs.Files.{FunctionGoals, core_of, setting_of_file, file_goals}
-use Rattle.plain_goals.specs.Laws.{AreExact}
-use Rattle.plain_sources.specs.Sources.{Source}
+use Rattle.logic_sources.specs.Told.{FunctionGoals, core_of, setting_of_file, file_goals, AreExact, Source}
 use Rattle.logic_sources.specs.Built.{names_of}
 use Rattle.wp_words.specs.Command.{Wanted}
 use Rattle.plain_reports.specs.Reports.{IsReportOf}

@@ -12,9 +12,7 @@ use Rattle.prover.specs.Prover.{IsProverVerdict}
 use Rattle.from_lines.specs.Froms.{from_lines}
 use Rattle.goal_report.specs.Report.{Reported, report_text}
 use Rattle.goal_report.specs.Judging.{EachIsSo, AreJudged}
-use Rattle.plain_goals.specs.Files.{FunctionGoals, file_goals, names_in, setting_of_file}
-use Rattle.plain_goals.specs.Laws.{IsMet}
-use Rattle.plain_sources.specs.Sources.{Source}
+use Rattle.logic_sources.specs.Told.{FunctionGoals, file_goals, names_in, setting_of_file, IsMet, Source}
 use Rattle.logic_sources.specs.Built.{names_of}
 use Rattle.wp_words.specs.Command.{Wanted}
 

@@ -6,8 +6,8 @@ use Rattle.c_runs.specs.Program.{Facts, Loop, Variable, Program}
 use Rattle.c_runs.specs.States.{Memory, Here, Granted}
 use Rattle.c_runs.specs.Operators.{Undefined}
 use Rattle.c_runs.specs.Claims.{Stop, undefined, may_change_local, at_head, in_body, measure_of}
-use Rattle.core_runs.specs.Run.{CoreWorld, Ending, goes_on, exits, returns, stopped, then_do, unless, one_turn, scope_left, scope_end}
-use Rattle.rte_checks.specs.Checks.{Check}
+use Rattle.plain_states.specs.Told.{CoreWorld, Ending, goes_on, exits, returns, stopped, then_do, unless, one_turn, scope_left, scope_end}
+use Rattle.core_checks.specs.Told.{Check}
 use Rattle.core_checks.specs.Tree.{Steps}
 use Rattle.core_checks.specs.Run as run
 use Rattle.plain_states.specs.Slots.{State, world_in, core_in, memory_in}

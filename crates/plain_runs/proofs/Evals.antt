@@ -7,7 +7,7 @@ use Rattle.c_runs.specs.States.{Memory, World, Here}
 use Rattle.c_runs.specs.Claims.{Stop, here_in, required, decreased, measure_of, at_entry, entered_well, ensured}
 use Rattle.c_runs.specs.Calls.{Eval, gives, stops, nought, unless, turn_by, back_in, keeps_promises, entered_by, found as found_by}
 use Rattle.c_runs.specs.Run as spelled
-use Rattle.core_runs.specs.Run.{CoreWorld, Ending, goes_on, exits, returns, stopped, begun}
+use Rattle.plain_states.specs.Told.{CoreWorld, Ending, goes_on, exits, returns, stopped, begun}
 use Rattle.core_checks.specs.Tree.{Steps}
 use Rattle.core_checks.specs.Run as run
 use Rattle.plain_states.specs.Slots.{State, world_in, core_in}

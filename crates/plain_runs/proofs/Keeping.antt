@@ -5,7 +5,7 @@ use Rattle.acsl_truth.specs.States.{Value}
 use Rattle.c_runs.specs.Program.{Facts}
 use Rattle.c_runs.specs.States.{Memory, Granted}
 use Rattle.c_runs.specs.Claims.{may_change_local}
-use Rattle.core_runs.specs.Run.{CoreWorld, Ending, goes_on, exits, returns, stopped, then_do, block_end}
+use Rattle.plain_states.specs.Told.{CoreWorld, Ending, goes_on, exits, returns, stopped, then_do, block_end}
 use Rattle.plain_states.specs.Slots.{State, core_in}
 use Rattle.plain_runs.specs.Fitting.{Shape, sizes, Fit}
 use Rattle.plain_runs.specs.Kept.{may_change_global, IsScoped, Unchanged, KeptFile, Kept, Comes}

@@ -3,7 +3,7 @@ use Rattle.std.proofs.Common.{zero, suc, refl}
 use Rattle.c_runs.specs.Program.{Program}
 use Rattle.c_runs.specs.States.{Memory}
 use Rattle.c_runs.specs.Claims.{spent}
-use Rattle.core_runs.specs.Run.{stopped}
+use Rattle.plain_states.specs.Told.{stopped}
 use Rattle.core_checks.specs.Tree.{Steps}
 use Rattle.core_checks.specs.Run as run
 use Rattle.plain_runs.specs.Fitting.{IsGood, FitsProgram, is_param}

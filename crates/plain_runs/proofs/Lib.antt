@@ -10,3 +10,4 @@ pub mod Endings
 pub mod Statements
 pub mod Levels
 pub mod Whole
+pub mod Told

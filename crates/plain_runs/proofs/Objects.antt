@@ -16,7 +16,7 @@ use Rattle.c_runs.specs.States.{Memory, World, Here, Local, plain, with_local, w
 use Rattle.c_runs.specs.Objects.{plain_root, is_plain_in, cell_of, address, along, start}
 use Rattle.c_runs.specs.Claims.{may_change, may_change_local}
 use Rattle.c_runs.specs.Effects.{granted, cell_written, kind_there, wrote_act, initial_act, initial_by}
-use Rattle.core_runs.specs.Run.{Ending, goes_on, in_world, with_eval}
+use Rattle.plain_states.specs.Told.{Ending, goes_on, in_world, with_eval}
 use Rattle.core_checks.specs.Tree.{Steps}
 use Rattle.core_checks.specs.Run as run
 use Rattle.plain_states.specs.Slots.{State, with_variable, result_slot, world_in, core_in}

@@ -16,8 +16,8 @@ use Rattle.c_runs.specs.Claims as claims
 use Rattle.c_runs.specs.Claims.{Stop, unless_true, in_body, in_loop, may_change_local}
 use Rattle.c_runs.specs.Scopes.{entered}
 use Rattle.c_runs.specs.Calls.{Eval, gives, stops, nought}
-use Rattle.core_runs.specs.Run.{CoreWorld, Ending, goes_on, with_eval, with_temp, in_world, scope_end}
-use Rattle.rte_checks.specs.Checks.{Check}
+use Rattle.plain_states.specs.Told.{CoreWorld, Ending, goes_on, with_eval, with_temp, in_world, scope_end}
+use Rattle.core_checks.specs.Told.{Check}
 use Rattle.core_checks.specs.Tree.{Goal, nowhere, temporary, place, variable, Step, set, store, start, call, branch, repeat, around, exit, give, claim, scope, Steps, end, then_}
 use Rattle.core_checks.specs.Run as run
 use Rattle.plain_states.specs.Slots.{State, at, temp_slot, with_temp_slot, memory_in, world_in, core_in}

@@ -15,8 +15,7 @@ use Rattle.acsl_truth.specs.States.{Value, number}
 use Rattle.c_runs.specs.Program.{Variable, Function, Facts, Program}
 use Rattle.c_runs.specs.States.{Memory}
 use Rattle.c_runs.specs.Entry.{leads_well, IsWellFormed}
-use Rattle.rte_checks.specs.Checks.{Check}
-use Rattle.rte_checks.specs.Tests.{total, totals, is_met}
+use Rattle.core_checks.specs.Told.{Check, total, totals, is_met}
 use Rattle.core_checks.specs.Tree.{Goal, nowhere, temporary, place, variable as to_variable, Step, set, store, start, call, branch, repeat, around, exit, give, claim, scope, Steps, end, then_}
 use Rattle.core_checks.specs.Run.{is_met_in, place_test, way_values, stored_value}
 use Rattle.plain_runs.specs.Touched.{some_sets}

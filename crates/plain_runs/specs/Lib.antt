@@ -2,3 +2,4 @@ pub mod Touched
 pub mod Fitting
 pub mod Kept
 pub mod Laws
+pub mod Told

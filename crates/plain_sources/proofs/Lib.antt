@@ -1,3 +1,3 @@
 pub mod Verified
 pub mod Greatest
-mod Found
+pub mod Told

@@ -1,3 +1,3 @@
 pub mod Sources
 pub mod Built
-pub mod Laws
+pub mod Told

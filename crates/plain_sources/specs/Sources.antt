@@ -6,7 +6,7 @@ use Rattle.c_answers.specs.Answers.{Answer, after}
 use Rattle.c_typing.specs.Typing.{typed_program}
 use Rattle.typed_unit.specs.Unit as u
 use Rattle.acsl_typing.specs.Annotations.{Annotations}
-use Rattle.acsl_annotated.specs.Annotated.{file_expanded}
+use Rattle.plain_goals.specs.Told.{file_expanded}
 
 -- the tree that it spells, the typed file, and its annotations with their definitions expanded
 pub record Source : Type 0 where

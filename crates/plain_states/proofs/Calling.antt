@@ -3,7 +3,7 @@ use Rattle.std.proofs.Common.{◌≡◌, ℕ, zero, suc, ◌+◌, ◌-◌, ◌<�
 use Rattle.std.specs.Prelude.{int_lt}
 use Rattle.std.proofs.lemmas.Int.{ints}
 use Rattle.wp_base.specs.Blocks.{Table, count, grow, endeds, to_nat}
-use Rattle.acsl_truth.specs.States.{Value, number}
+use Rattle.c_runs.specs.Told.{Value, number}
 use Rattle.c_runs.specs.States.{Memory, World, with_memory}
 use Rattle.c_runs.specs.Scopes.{ended_since, left}
 use Rattle.plain_states.specs.Slots.{State, Sizes, double, at, with_variable, value_slot, flag_slot, result_slot, cell_in, memory_in, world_in}

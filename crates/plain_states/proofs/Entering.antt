@@ -4,7 +4,7 @@ use Rattle.std.specs.Prelude.{nat_lt}
 use Rattle.std.specs.List.{list_all}
 use Rattle.std.proofs.lemmas.Bool.{and_parts, lt-ltb, ltb-true, ltb-false}
 use Rattle.qed_terms.specs.Operators.{is_zero, is_equal}
-use Rattle.acsl_truth.specs.States.{Value, number}
+use Rattle.c_runs.specs.Told.{Value, number}
 use Rattle.c_runs.specs.Program.{Variable, Facts}
 use Rattle.c_runs.specs.States as run
 use Rattle.c_runs.specs.States.{Local, plain, unset, Memory, World, with_local, with_memory, no_locals}

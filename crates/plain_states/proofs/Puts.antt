@@ -5,7 +5,7 @@ use Rattle.std.proofs.lemmas.Bool.{false≢true, and_parts, ltb-true, lt-ltb}
 use Rattle.std.proofs.lemmas.Int.{ints}
 use Rattle.std.proofs.lemmas.Bool.Decides.{Decides-eqb}
 use Rattle.qed_terms.specs.Operators.{is_zero, is_equal}
-use Rattle.acsl_truth.specs.States.{Value, number}
+use Rattle.c_runs.specs.Told.{Value, number}
 use Rattle.c_runs.specs.States.{Local, plain, unset, Memory, World, with_local, with_memory, stored_in, with_cell}
 use Rattle.c_runs.specs.States as run
 use Rattle.core_runs.specs.Run.{with_temp, in_world}

@@ -7,7 +7,7 @@ use Rattle.wp_base.specs.declared.kinds.CellKind.TheVariants as cell
 use Rattle.wp_base.specs.declared.kinds.Kind.{Kind}
 use Rattle.wp_base.specs.Blocks.{count}
 use Rattle.c_kinds.specs.Models.{holds}
-use Rattle.acsl_truth.specs.States.{Value, number, pointer, addresses, region, number_of, nothing_of}
+use Rattle.c_runs.specs.Told.{Value, number, pointer, addresses, region, number_of, nothing_of}
 use Rattle.c_runs.specs.Program.{Variable, Facts}
 use Rattle.c_runs.specs.States.{plain, Memory, with_local}
 use Rattle.c_runs.specs.Scopes.{next_content, others, scalar_of, plain_made, block_made, variable_made, entered, without_locals}

@@ -1,3 +1,4 @@
 pub mod Slots
 pub mod Scopes
 pub mod Laws
+pub mod Told

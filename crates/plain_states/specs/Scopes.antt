@@ -5,7 +5,7 @@ use Rattle.wp_base.specs.declared.kinds.CellKind.TheVariants as cell
 use Rattle.wp_base.specs.declared.kinds.Kind.{Kind}
 use Rattle.wp_base.specs.declared.kinds.Kind.TheVariants as kind
 use Rattle.wp_base.specs.Blocks.{count}
-use Rattle.acsl_truth.specs.States.{Value, number, number_of}
+use Rattle.c_runs.specs.Told.{Value, number, number_of}
 use Rattle.c_runs.specs.Program.{Variable, Facts}
 use Rattle.c_runs.specs.States.{Memory}
 use Rattle.c_runs.specs.Scopes.{next_content, others, scalar_of}

@@ -3,7 +3,7 @@
 -- the result of a call, and the temporaries.
 use Rattle.std.specs.Prelude.{ℕ, zero, suc, ◌+◌, nat_lt, ℤ, pos, negsuc, ◌&&◌, if◌then◌else◌, List, [], ◌∷◌, length}
 use Rattle.qed_terms.specs.Operators.{is_zero, is_equal}
-use Rattle.acsl_truth.specs.States.{Value, number}
+use Rattle.c_runs.specs.Told.{Value, number}
 use Rattle.c_runs.specs.Program.{Variable, Facts}
 use Rattle.c_runs.specs.States.{Local, plain, unset, Memory, World}
 use Rattle.c_runs.specs.Values.{Temps}

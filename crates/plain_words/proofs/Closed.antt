@@ -27,10 +27,8 @@ use Rattle.plain_runs.specs.Fitting.{Shape, sizes}
 use Rattle.value_terms.specs.Readings.{Term, as_number, as_test, as_pointer, number_term, condition, term_at, Reading, plain_global}
 use Rattle.value_terms.specs.Terms.{of_one, of_two, within_term, exact_term, may_leave, arithmetic_term, comparison, narrowed, converted_term, cell_term, read_term, first_kind, op_term, node_term, term_of, terms_of}
 use Rattle.value_terms.specs.Typed.{Scope, CellIsTyped, ReadIsTyped, OpIsTyped, NodeIsTyped, IsTyped, AreTyped, kind_given}
-use Rattle.program_steps.specs.Leaves.{is_closed}
-use Rattle.program_steps.specs.Temporaries.{Temporaries}
-use Rattle.program_steps.specs.Typed.{scope_at}
-use Rattle.program_steps.proofs.Starting.{leaf_closed}
+use Rattle.loop_words.specs.Told.{is_closed, Temporaries, scope_at}
+use Rattle.loop_words.proofs.Told.{leaf_closed}
 use Rattle.call_words.specs.Callee.{reading_at, terms_at}
 
 abbrev pub IsClosed : Tree → Type 0

@@ -26,7 +26,7 @@ use Rattle.value_terms.specs.Readings.{Term, number_term, term_at, Reading, plai
 use Rattle.value_terms.specs.Terms.{of_one, exact_term, address_term, op_term, terms_of}
 use Rattle.value_terms.specs.Words.{Item, asked, known, asked_if, with_check, held_term, range_facts, is_below_term, quotient_fits_term, shift_fits_term, division_items, arithmetic_items, access_term, index_items, facts_by, read_items, op_items, node_word, word_of, words}
 use Rattle.value_terms.specs.Typed.{Scope, CellIsTyped, ReadIsTyped, OpIsTyped, NodeIsTyped, IsTyped, AreTyped, kind_given}
-use Rattle.program_steps.specs.Typed.{is_closed_item}
+use Rattle.loop_words.specs.Told.{is_closed_item}
 use Rattle.plain_words.proofs.Closed.{IsClosed, TermIsClosed, number_part, exact_closed, op_closed, kids_closed}
 
 -- ---- lists of items

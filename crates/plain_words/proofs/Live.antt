@@ -7,7 +7,7 @@ use Rattle.c_runs.specs.Program.{Variable}
 use Rattle.core_runs.specs.Core.{Core, set, store, start, call, branch, repeat, around, exit, give, claim, scope, Cores, end, then_, join, one}
 use Rattle.core_checks.specs.Adding.{step_of, steps_of}
 use Rattle.plain_runs.specs.Fitting.{with_names}
-use Rattle.program_steps.specs.Temporaries.{Temporaries, no_temporaries, out_at, live, all_live}
+use Rattle.loop_words.specs.Told.{Temporaries, no_temporaries, out_at, live, all_live}
 use Rattle.plain_words.specs.Temporaries.{greater, temporaries_by, temporaries_in}
 use Rattle.plain_words.specs.Sets.{set_stands}
 

@@ -12,7 +12,7 @@ use Rattle.core_checks.specs.Adding.{goal_of}
 use Rattle.normal_stmts.specs.Plans.{Made, Mades, operands, first_plan, planned}
 use Rattle.normal_stmts.specs.Normal.{Did, is_temp, save_unless, dropped, called_into, plain_store, stored, effect_of, started, loop_test, loop_step, given}
 use Rattle.plain_runs.specs.Kept.{goal_temp}
-use Rattle.program_steps.specs.Temporaries.{Temporaries, no_temporaries, uses, some_use, goal_uses}
+use Rattle.loop_words.specs.Told.{Temporaries, no_temporaries, uses, some_use, goal_uses}
 use Rattle.plain_normal.specs.Plain.{IsPlain, IfWanted}
 use Rattle.plain_words.proofs.Live.{either, left_in, right_in, Among, among_none, join_below, Reaches, lives, Fine, end_fine, join_fine}
 use Rattle.plain_words.proofs.Made.{MadeWell, MadesWell, AllMade, TestsWell, save_well}

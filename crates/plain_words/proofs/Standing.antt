@@ -25,10 +25,9 @@ use Rattle.plain_runs.specs.Fitting as fitting
 use Rattle.plain_runs.specs.Fitting.{Shape, sizes, LeadsTo, with_name, with_names}
 use Rattle.plain_runs.specs.Kept.{some_sets, goal_temp}
 use Rattle.plain_typing.specs.Laws.{count_of}
-use Rattle.program_steps.specs.Temporaries.{Temporaries, no_temporaries, uses, some_use, goal_uses, live, all_live}
-use Rattle.program_steps.specs.Terms.{reading, same_variable, is_region_of, has_variable}
-use Rattle.program_steps.specs.Typed.{scope_at, ValueFits, Takes, Declares}
-use Rattle.program_steps.proofs.Starting.{leaf_closed}
+use Rattle.loop_words.specs.Told.{Temporaries, no_temporaries, uses, some_use, goal_uses, live, all_live, reading, same_variable, is_region_of, has_variable}
+use Rattle.loop_words.specs.Told.{scope_at, ValueFits, Takes, Declares}
+use Rattle.loop_words.proofs.Told.{leaf_closed}
 use Rattle.call_words.specs.Fits as words
 use Rattle.call_words.specs.Fits.{Receives, by_nothing, by_temporary, by_place, by_variable, ResultGoes, none_nowhere, none_to, goes_to}
 use Rattle.loop_words.specs.Sets.{region_variable, lets_local}

@@ -8,7 +8,7 @@ use Rattle.core_runs.specs.Core.{repeat, around, exit, claim, scope, Cores, end,
 use Rattle.normal_stmts.specs.Plans.{Tests, condition, next_of, planned}
 use Rattle.normal_stmts.specs.Normal.{Did, is_settled, save_unless, effect_of, started, loop_test, loop_step, given, dispatch, up, loop_body, stmt, stmts, groups}
 use Rattle.plain_runs.specs.Fitting.{with_names}
-use Rattle.program_steps.specs.Temporaries.{Temporaries, no_temporaries, uses}
+use Rattle.loop_words.specs.Told.{Temporaries, no_temporaries, uses}
 use Rattle.plain_normal.specs.Plain.{up_to, StmtIsPlain, StmtsArePlain}
 use Rattle.plain_words.specs.Sets.{set_stands, sets_stand, all_sets_stand}
 use Rattle.plain_normal.specs.Jumps.{Jumps, AllJump}

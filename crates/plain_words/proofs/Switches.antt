@@ -9,7 +9,7 @@ use Rattle.c_runs.specs.Run.{is_case, is_default}
 use Rattle.core_runs.specs.Core.{around, Cores, join}
 use Rattle.normal_stmts.specs.Plans.{condition, next_of, planned}
 use Rattle.normal_stmts.specs.Normal.{Did, is_settled, save_unless, is_label, whole_switch, close, truth_of, label_test, index_of, dispatch, up, stmt, stmts, groups}
-use Rattle.program_steps.specs.Temporaries.{Temporaries, no_temporaries, uses, some_use, out_at}
+use Rattle.loop_words.specs.Told.{Temporaries, no_temporaries, uses, some_use, out_at}
 use Rattle.plain_words.proofs.Live.{either, Among, count_in, join_below, one_below, Reaches, lives, Fine, join_fine, around_fine, exit_fine}
 
 -- ---- blocks around

@@ -25,8 +25,7 @@ use Rattle.plain_runs.specs.Fitting.{Shape, LeadsTo, to_local, to_global}
 use Rattle.plain_typing.specs.Laws.{scope_of}
 use Rattle.value_terms.specs.Readings.{plain_global}
 use Rattle.value_terms.specs.Typed.{kind_given, CellIsTyped, ReadIsTyped, OpIsTyped, NodeIsTyped, IsTyped, AreTyped}
-use Rattle.program_steps.specs.Temporaries.{Temporaries, node_uses, uses, some_use}
-use Rattle.program_steps.specs.Typed.{temporary_kind, scope_at}
+use Rattle.loop_words.specs.Told.{Temporaries, node_uses, uses, some_use, temporary_kind, scope_at}
 use Rattle.plain_words.proofs.Live.{Among, left_in, right_in}
 
 module _ (p : Facts) (s : Shape) (f : Temporaries) where

@@ -11,7 +11,7 @@ use Rattle.normal_stmts.specs.Normal.{stmts, normal_function, normal}
 use Rattle.plain_states.proofs.Scoping.{none_some}
 use Rattle.plain_states.proofs.Calling.{some_same}
 use Rattle.plain_runs.specs.Fitting.{shape_of, is_param}
-use Rattle.program_steps.specs.Temporaries.{no_temporaries}
+use Rattle.loop_words.specs.Told.{no_temporaries}
 use Rattle.plain_normal.specs.Plain.{IsPlainFunction, IsPlainProgram}
 use Rattle.plain_normal.proofs.Making.{Place, Env, Known}
 use Rattle.plain_normal.proofs.Planned.{env_of, env_known}

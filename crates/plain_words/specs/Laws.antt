@@ -6,7 +6,7 @@ use Rattle.normal_stmts.specs.Normal.{normal}
 use Rattle.core_checks.specs.Adding.{add_checks}
 use Rattle.core_checks.specs.Tree.{Steps}
 use Rattle.plain_runs.specs.Fitting.{shape_of, is_param}
-use Rattle.program_steps.specs.Temporaries.{no_temporaries}
+use Rattle.loop_words.specs.Told.{no_temporaries}
 use Rattle.plain_normal.specs.Plain.{IsPlainProgram}
 use Rattle.plain_words.specs.Temporaries.{temporaries_in}
 use Rattle.plain_words.specs.Standing.{AllStand}

@@ -3,3 +3,4 @@ pub mod Standing
 pub mod Sets
 pub mod Results
 pub mod Laws
+pub mod Told

@@ -14,9 +14,7 @@ use Rattle.plain_runs.specs.Fitting.{Shape, LeadsTo, with_names}
 use Rattle.plain_runs.specs.Kept.{some_temps}
 use Rattle.value_terms.specs.Words.{words}
 use Rattle.value_terms.specs.Typed.{AreTyped, operand_kind}
-use Rattle.program_steps.specs.Temporaries.{Temporaries, no_temporaries, live, all_live}
-use Rattle.program_steps.specs.Terms.{reading}
-use Rattle.program_steps.specs.Typed.{is_closed_item, scope_at, ValueFits, Takes, Declares}
+use Rattle.loop_words.specs.Told.{Temporaries, no_temporaries, live, all_live, reading, is_closed_item, scope_at, ValueFits, Takes, Declares}
 use Rattle.loop_words.specs.Sets.{lets_local, local_changes}
 use Rattle.call_words.specs.Fits.{ResultGoes, count_of}
 

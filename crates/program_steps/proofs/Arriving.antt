@@ -21,11 +21,8 @@ use Rattle.plain_states.proofs.Scoping.{none_some, found_below}
 use Rattle.plain_states.proofs.Calling.{some_same, entry_first, entry_behind, entry_argument}
 use Rattle.plain_states.proofs.Entering.{found, when_true, arrives}
 use Rattle.plain_states.proofs.Puts.{at_is}
-use Rattle.plain_runs.specs.Fitting.{IsGood, Shape, sizes, shape_of, is_param, Fit, AreOf}
-use Rattle.plain_runs.specs.Kept.{IsScoped}
-use Rattle.plain_runs.proofs.Calls.{more_slots, entry_fits, entry_scoped}
-use Rattle.plain_runs.proofs.Objects.{home_is}
-use Rattle.plain_runs.proofs.Whole.{outer, start, start_fits, same_memory, first_world}
+use Rattle.goal_segments.specs.Told.{IsGood, Shape, sizes, shape_of, is_param, Fit, AreOf, IsScoped}
+use Rattle.goal_segments.proofs.Told.{more_slots, entry_fits, entry_scoped, home_is, outer, start, start_fits, same_memory, first_world}
 use Rattle.goal_segments.proofs.Arguments.{Numbers, numbers_of}
 use Rattle.goal_segments.proofs.Heads.{same_blocks, good_state}
 use Rattle.program_steps.specs.Temporaries.{Temporaries, no_temporaries, all_live}

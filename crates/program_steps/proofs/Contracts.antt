@@ -15,7 +15,7 @@ use Rattle.c_runs.specs.Program.{Claim, Behavior, Together, Contract, Facts}
 use Rattle.c_runs.specs.Claims as broken
 use Rattle.c_runs.specs.Claims.{Stop, failed, or_stop, unless_true, holds, claimed, is_assumed, is_assumed_in, assumed_of, is_so, one_at_most, together_holds, all_together, ensured_by}
 use Rattle.plain_states.specs.Slots.{State}
-use Rattle.plain_runs.specs.Fitting.{Shape}
+use Rattle.goal_segments.specs.Told.{Shape}
 use Rattle.walk_steps.specs.Forms.{Check}
 use Rattle.program_steps.specs.Leaves.{is_closed, or_false, closed, leaves_of}
 use Rattle.program_steps.specs.Stops.{broken_place, IsStop}

@@ -11,7 +11,7 @@ use Rattle.core_checks.specs.Tree.{Steps}
 use Rattle.segments.specs.Segments as segment
 use Rattle.segments.specs.Segments.{BlockEnds, Leaves, by_exit, by_return, by_stop}
 use Rattle.plain_states.specs.Slots.{State, temp_slot}
-use Rattle.plain_runs.specs.Fitting.{Shape, sizes}
+use Rattle.goal_segments.specs.Told.{Shape, sizes}
 use Rattle.walk_steps.specs.State as walk
 use Rattle.walk_steps.specs.Forms.{Place}
 use Rattle.walk_steps.specs.Step.{Step, places, count}

@@ -15,7 +15,7 @@ use Rattle.core_checks.specs.Run as core
 use Rattle.segments.specs.Segments.{Asks, all_met, met, unmet}
 use Rattle.segments.proofs.Agreeing.{asks_asked}
 use Rattle.plain_states.specs.Slots.{State}
-use Rattle.plain_runs.specs.Fitting.{Shape}
+use Rattle.goal_segments.specs.Told.{Shape}
 use Rattle.value_terms.specs.Words.{Item, checks_in}
 use Rattle.value_terms.specs.Laws.{Says}
 use Rattle.walk_steps.specs.Forms.{Place}

@@ -28,10 +28,8 @@ use Rattle.plain_states.proofs.Lists.{double_is}
 use Rattle.plain_states.proofs.Scoping.{found_below, listed_integer, cell_of_integer}
 use Rattle.plain_states.proofs.Calling.{some_same, entry_argument}
 use Rattle.plain_states.proofs.Entering.{found, when_true}
-use Rattle.plain_runs.specs.Fitting.{IsGood, IsFlag, Shape, sizes, shape_of, Fit, AreOf}
-use Rattle.plain_runs.proofs.Scopes.{zero_of}
-use Rattle.plain_runs.proofs.Calls.{more_slots}
-use Rattle.plain_runs.proofs.Whole.{start as start_state}
+use Rattle.goal_segments.specs.Told.{IsGood, IsFlag, Shape, sizes, shape_of, Fit, AreOf}
+use Rattle.goal_segments.proofs.Told.{zero_of, more_slots, start as start_state}
 use Rattle.goal_segments.proofs.Arguments.{arguments_are, numbers_lead}
 use Rattle.goal_segments.proofs.Heads.{good_state}
 use Rattle.walk_steps.specs.State.{AllTrue, In}

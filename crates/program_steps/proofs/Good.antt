@@ -14,7 +14,7 @@ use Rattle.c_runs.specs.Claims as broken
 use Rattle.c_runs.specs.Claims.{in_order}
 use Rattle.core_checks.specs.Tree as core
 use Rattle.plain_states.specs.Slots.{Sizes, value_slot, flag_slot, temp_slot}
-use Rattle.plain_runs.specs.Fitting.{Shape, sizes}
+use Rattle.goal_segments.specs.Told.{Shape, sizes}
 use Rattle.value_terms.specs.Readings.{condition}
 use Rattle.value_terms.specs.Terms.{term_of}
 use Rattle.value_terms.specs.Words.{Item, asked, known, word_of, words}

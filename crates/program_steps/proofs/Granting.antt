@@ -28,8 +28,8 @@ use Rattle.plain_states.specs.Slots.{State}
 use Rattle.plain_states.specs.Scopes.{is_integer}
 use Rattle.plain_states.proofs.Scoping.{found_below}
 use Rattle.plain_states.proofs.Puts.{equal_is}
-use Rattle.plain_runs.specs.Fitting.{Shape}
-use Rattle.plain_runs.proofs.Whole.{all_plain}
+use Rattle.goal_segments.specs.Told.{Shape}
+use Rattle.goal_segments.proofs.Told.{all_plain}
 use Rattle.program_steps.specs.Leaves.{is_closed, closed, leaves_of}
 use Rattle.program_steps.specs.Terms.{Texts, is_region_of, same_variable, has_variable}
 use Rattle.program_steps.specs.Words.{lacks, under, as_one, missing_in, missing_all}

@@ -15,9 +15,8 @@ use Rattle.c_runs.specs.Scopes.{scalar_of, ended_since}
 use Rattle.c_runs.specs.Entry.{is_value, is_placed, is_home, is_block, leads_well}
 use Rattle.plain_states.specs.Scopes.{is_integer, kind_of}
 use Rattle.plain_states.proofs.Entering.{when_true}
-use Rattle.plain_runs.specs.Fitting.{IsGood, Shape}
-use Rattle.plain_runs.proofs.Cells.{no_negative}
-use Rattle.plain_runs.proofs.Objects.{home_is}
+use Rattle.goal_segments.specs.Told.{IsGood, Shape}
+use Rattle.goal_segments.proofs.Told.{no_negative, home_is}
 use Rattle.goal_segments.specs.Segments.{SameBlocks}
 use Rattle.program_steps.proofs.Filling.{on_bool}
 use Rattle.program_steps.proofs.Standing.{of_file}

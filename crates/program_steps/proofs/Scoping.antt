@@ -23,8 +23,8 @@ use Rattle.plain_states.proofs.Lists.{set_else, value_before, flag_before}
 use Rattle.plain_states.proofs.Scoping.{none_some}
 use Rattle.plain_states.proofs.Calling.{some_same}
 use Rattle.plain_states.proofs.Entering.{when_true}
-use Rattle.plain_runs.specs.Fitting.{IsGood, Shape, sizes, with_name, with_names}
-use Rattle.plain_runs.proofs.Scopes.{zero_of}
+use Rattle.goal_segments.specs.Told.{IsGood, Shape, sizes, with_name, with_names}
+use Rattle.goal_segments.proofs.Told.{zero_of}
 use Rattle.walk_steps.specs.State as walk
 use Rattle.walk_steps.specs.State.{restore}
 use Rattle.walk_steps.specs.Step.{Step, Change, keeps, fresh, count as checks_in}

@@ -11,9 +11,8 @@ use Rattle.core_runs.specs.Run.{CoreWorld}
 use Rattle.plain_states.specs.Slots.{State, at, value_slot, local_value}
 use Rattle.plain_states.specs.Scopes.{is_integer}
 use Rattle.plain_states.proofs.Scoping.{found_below}
-use Rattle.plain_runs.specs.Fitting.{Shape, sizes}
-use Rattle.plain_runs.proofs.Objects.{home_is}
-use Rattle.plain_runs.proofs.Whole.{all_plain}
+use Rattle.goal_segments.specs.Told.{Shape, sizes}
+use Rattle.goal_segments.proofs.Told.{home_is, all_plain}
 use Rattle.program_steps.specs.Temporaries.{Temporaries}
 use Rattle.program_steps.specs.Standing.{StandsFor, SeenAs}
 use Rattle.program_steps.proofs.Standing.{file_fits}

@@ -24,10 +24,8 @@ use Rattle.plain_states.proofs.Scoping.{found_below}
 use Rattle.plain_states.proofs.Calling.{some_same}
 use Rattle.plain_states.proofs.Entering.{when_true}
 use Rattle.plain_states.proofs.Puts.{at_is, cell_is}
-use Rattle.plain_runs.specs.Fitting.{IsGood, Shape, sizes}
-use Rattle.plain_runs.proofs.Cells.{no_negative}
-use Rattle.plain_runs.proofs.Objects.{home_is}
-use Rattle.plain_runs.proofs.Whole.{all_plain}
+use Rattle.goal_segments.specs.Told.{IsGood, Shape, sizes}
+use Rattle.goal_segments.proofs.Told.{no_negative, home_is, all_plain}
 use Rattle.program_steps.specs.Temporaries.{Temporaries}
 use Rattle.program_steps.specs.Standing.{LocalIs, TempIs, StandsFor}
 use Rattle.program_steps.proofs.Standing.{of_file}

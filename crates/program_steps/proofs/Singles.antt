@@ -44,9 +44,8 @@ use Rattle.plain_states.specs.Slots as slots
 use Rattle.plain_states.specs.Scopes.{kind_of}
 use Rattle.plain_states.proofs.Lists.{put_here}
 use Rattle.plain_states.proofs.Entering.{when_true}
-use Rattle.plain_runs.specs.Fitting.{Shape, sizes, LeadsTo, to_local, to_global}
-use Rattle.plain_runs.specs.Kept.{may_change_global, IsResult}
-use Rattle.plain_runs.proofs.Objects.{home_is}
+use Rattle.goal_segments.specs.Told.{Shape, sizes, LeadsTo, to_local, to_global, may_change_global, IsResult}
+use Rattle.goal_segments.proofs.Told.{home_is}
 use Rattle.value_terms.specs.Readings.{number_term}
 use Rattle.value_terms.specs.Terms.{term_of}
 use Rattle.value_terms.specs.Words.{Item, asked, known, with_check, checks_in, word_of, words}

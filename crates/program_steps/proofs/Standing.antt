@@ -25,9 +25,8 @@ use Rattle.plain_states.specs.Scopes.{is_integer, are_one_integer, kind_in, kind
 use Rattle.plain_states.proofs.Scoping.{listed_integer, cell_of_integer}
 use Rattle.plain_states.proofs.Calling.{some_same}
 use Rattle.plain_states.proofs.Entering.{when_true}
-use Rattle.plain_runs.specs.Fitting.{IsGood, IsFlag, Shape, sizes}
-use Rattle.plain_runs.proofs.Cells.{no_negative}
-use Rattle.plain_runs.proofs.Objects.{home_is}
+use Rattle.goal_segments.specs.Told.{IsGood, IsFlag, Shape, sizes}
+use Rattle.goal_segments.proofs.Told.{no_negative, home_is}
 use Rattle.value_terms.specs.Typed.{Scope, VariableIs}
 use Rattle.value_terms.specs.Worlds.{HoldsKinds, Stands, flag_of, has_value}
 use Rattle.value_terms.specs.Laws.{Stood}

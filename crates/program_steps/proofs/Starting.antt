@@ -20,8 +20,8 @@ use Rattle.core_checks.specs.Tree.{Steps}
 use Rattle.plain_states.specs.Slots.{State, at, double, value_slot, flag_slot, local_value, local_flag, temp_slot}
 use Rattle.plain_states.specs.Scopes.{is_integer, kind_of, zeros, first_slots, argument_slots}
 use Rattle.plain_states.proofs.Lists.{double_is}
-use Rattle.plain_runs.specs.Fitting.{IsGood, Shape, sizes, shape_of, is_param, AreOf}
-use Rattle.plain_runs.proofs.Calls.{more_slots}
+use Rattle.goal_segments.specs.Told.{IsGood, Shape, sizes, shape_of, is_param, AreOf}
+use Rattle.goal_segments.proofs.Told.{more_slots}
 use Rattle.goal_segments.proofs.Arguments.{Numbers, numbers_of}
 use Rattle.walk_steps.specs.State.{AllTrue}
 use Rattle.walk_steps.specs.Forms.{Form, told_forms}

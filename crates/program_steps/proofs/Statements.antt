@@ -22,8 +22,7 @@ use Rattle.goal_segments.specs.Segments as segs
 use Rattle.goal_segments.specs.Segments.{Opened, no_deeper}
 use Rattle.goal_segments.proofs.Following.{block_ends}
 use Rattle.plain_states.specs.Slots.{State}
-use Rattle.plain_runs.specs.Fitting.{Shape, sizes, with_names}
-use Rattle.plain_runs.specs.Kept.{temps}
+use Rattle.goal_segments.specs.Told.{Shape, sizes, with_names, temps}
 use Rattle.value_terms.specs.Readings.{condition}
 use Rattle.value_terms.specs.Terms.{term_of}
 use Rattle.value_terms.specs.Words.{Item, checks_in, word_of}

@@ -21,9 +21,8 @@ use Rattle.plain_states.specs.Slots.{State, at, double, value_slot, local_value,
 use Rattle.plain_states.specs.Scopes.{is_integer, kind_of, zeros, first_slots, argument_slots}
 use Rattle.plain_states.proofs.Lists.{double_is}
 use Rattle.plain_states.proofs.Scoping.{found_below}
-use Rattle.plain_runs.specs.Fitting.{IsGood, Shape, sizes, shape_of, AreOf}
-use Rattle.plain_runs.proofs.Calls.{more_slots}
-use Rattle.plain_runs.proofs.Whole.{file_slots}
+use Rattle.goal_segments.specs.Told.{IsGood, Shape, sizes, shape_of, AreOf}
+use Rattle.goal_segments.proofs.Told.{more_slots, file_slots}
 use Rattle.goal_segments.proofs.Arguments.{Numbers, numbers_of}
 use Rattle.walk_steps.specs.State.{In}
 use Rattle.walk_steps.specs.Step.{Step, places}

@@ -20,7 +20,7 @@ use Rattle.rte_checks.specs.Checks.{Check, checks_of}
 use Rattle.rte_checks.specs.Tests.{total, is_met}
 use Rattle.segments.specs.Segments.{Asks}
 use Rattle.plain_states.specs.Slots.{State}
-use Rattle.plain_runs.specs.Fitting.{Shape}
+use Rattle.goal_segments.specs.Told.{Shape}
 use Rattle.value_terms.specs.Readings.{Term, as_number, as_test, as_pointer, number_term, condition}
 use Rattle.value_terms.specs.Terms.{term_of}
 use Rattle.value_terms.specs.Words.{checks_in, word_of}

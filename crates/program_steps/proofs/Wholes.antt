@@ -25,8 +25,7 @@ use Rattle.goal_segments.specs.Segments.{AllSeg, FunctionSeg, not_entered, goes_
 use Rattle.plain_states.specs.Slots.{State, at, value_slot, result_slot}
 use Rattle.plain_states.proofs.Calling.{some_same}
 use Rattle.plain_states.proofs.Scoping.{none_some}
-use Rattle.plain_runs.specs.Fitting.{Shape, sizes, shape_of, is_param}
-use Rattle.plain_runs.specs.Kept.{IsResult, may_change_global}
+use Rattle.goal_segments.specs.Told.{Shape, sizes, shape_of, is_param, IsResult, may_change_global}
 use Rattle.walk_steps.specs.State.{FirstFalse}
 use Rattle.walk_steps.specs.Forms.{Check, Place}
 use Rattle.walk_steps.specs.Step.{Step, places, count as checks_in}

@@ -28,9 +28,8 @@ use Rattle.c_runs.specs.Calls.{Eval, gives, stops}
 use Rattle.core_runs.specs.Run.{begun}
 use Rattle.core_checks.specs.Tree.{Steps}
 use Rattle.plain_states.specs.Slots.{State, at, result_slot}
-use Rattle.plain_runs.specs.Fitting.{Shape, sizes, is_param}
+use Rattle.goal_segments.specs.Told.{Shape, sizes, is_param, IsResult}
 use Rattle.walk_steps.specs.State.{at_or}
-use Rattle.plain_runs.specs.Kept.{IsResult}
 use Rattle.walk_steps.specs.Forms.{Place, Check}
 use Rattle.walk_steps.specs.Run.{End, goes_on, leaves, fails, Seg}
 use Rattle.walk_steps.specs.Step.{Step, skip, halt, seq, ask, block, remember}

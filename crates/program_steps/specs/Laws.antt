@@ -18,7 +18,7 @@ use Rattle.core_checks.specs.Tree.{Goal, Steps}
 use Rattle.goal_segments.specs.Segments.{AllSeg, FunctionSeg}
 use Rattle.plain_states.specs.Slots.{State}
 use Rattle.plain_states.specs.Scopes.{is_integer}
-use Rattle.plain_runs.specs.Fitting.{IsGood as IsGoodMemory, Shape, shape_of}
+use Rattle.goal_segments.specs.Told.{IsGood as IsGoodMemory, Shape, shape_of}
 use Rattle.qed_terms.specs.Setting.{Setting, world_of, Valid}
 use Rattle.walk_steps.specs.State.{In}
 use Rattle.walk_steps.specs.World.{AreBases}

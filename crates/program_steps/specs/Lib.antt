@@ -12,3 +12,4 @@ pub mod Others
 pub mod Functions
 pub mod Starting
 pub mod Laws
+pub mod Told

@@ -10,7 +10,7 @@ use Rattle.rte_checks.specs.Checks.{Check}
 use Rattle.core_checks.specs.Tree.{Goal, call, repeat, Steps}
 use Rattle.goal_segments.specs.Segments.{Seg, AllSeg}
 use Rattle.plain_states.specs.Slots.{State}
-use Rattle.plain_runs.specs.Fitting.{Shape}
+use Rattle.goal_segments.specs.Told.{Shape}
 use Rattle.walk_steps.specs.Step.{Step, places}
 use Rattle.program_steps.specs.Temporaries.{Temporaries, no_temporaries, live, all_live}
 use Rattle.program_steps.specs.Terms.{Texts}

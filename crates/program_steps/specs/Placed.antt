@@ -12,8 +12,7 @@ use Rattle.c_runs.specs.Claims.{may_change_local}
 use Rattle.core_runs.specs.Run.{Ending}
 use Rattle.plain_states.specs.Slots.{State}
 use Rattle.plain_states.specs.Scopes.{is_integer}
-use Rattle.plain_runs.specs.Fitting.{Shape}
-use Rattle.plain_runs.specs.Kept.{may_change_global}
+use Rattle.goal_segments.specs.Told.{Shape, may_change_global}
 use Rattle.walk_steps.specs.State.{at_or}
 use Rattle.walk_steps.specs.Step.{Step}
 use Rattle.walk_steps.specs.Run.{End, Seg}

@@ -14,8 +14,7 @@ use Rattle.core_runs.specs.Run as run
 use Rattle.core_runs.specs.Run.{CoreWorld, Ending}
 use Rattle.plain_states.specs.Slots.{State, at, value_slot, local_value, local_flag, result_slot, temp_slot}
 use Rattle.plain_states.specs.Scopes.{kind_of}
-use Rattle.plain_runs.specs.Fitting.{IsGood, IsFlag, Shape, sizes}
-use Rattle.plain_runs.specs.Kept.{IsResult}
+use Rattle.goal_segments.specs.Told.{IsGood, IsFlag, Shape, sizes, IsResult}
 use Rattle.goal_segments.specs.Segments.{SameBlocks}
 use Rattle.walk_steps.specs.State.{at_or}
 use Rattle.walk_steps.specs.Forms.{Place}

@@ -9,7 +9,7 @@ use Rattle.c_runs.specs.Program.{Variable, Claim, Behavior, Contract, Function, 
 use Rattle.core_checks.specs.Tree.{Steps}
 use Rattle.plain_states.specs.Slots.{value_slot, local_value}
 use Rattle.plain_states.specs.Scopes.{kind_of}
-use Rattle.plain_runs.specs.Fitting.{Shape, sizes}
+use Rattle.goal_segments.specs.Told.{Shape, sizes}
 use Rattle.walk_steps.specs.Laws.{Origin, own, fixed, Start}
 use Rattle.program_steps.specs.Leaves.{leaf, form}
 use Rattle.program_steps.specs.Terms.{Texts, entry_reading, claim_tree, assumed_tree}

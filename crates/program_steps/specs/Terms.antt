@@ -15,7 +15,7 @@ use Rattle.c_runs.specs.States.{hidden, global_home}
 use Rattle.c_runs.specs.Claims.{struct_cells}
 use Rattle.plain_states.specs.Slots.{value_slot, local_value, local_flag, result_slot, temp_slot}
 use Rattle.plain_states.specs.Scopes.{kind_of}
-use Rattle.plain_runs.specs.Fitting.{Shape, sizes}
+use Rattle.goal_segments.specs.Told.{Shape, sizes}
 use Rattle.value_terms.specs.Readings.{Reading, as_number}
 use Rattle.acsl_encode.specs.Readings as annotation
 use Rattle.acsl_encode.specs.Readings.{Slot, whole, any_integer, absent, Seen, Called, Common, integer, nothing}

@@ -18,7 +18,7 @@ use Rattle.core_checks.specs.Tree as core
 use Rattle.core_checks.specs.Tree.{Goal}
 use Rattle.plain_states.specs.Slots.{State}
 use Rattle.plain_states.specs.Scopes.{kind_of}
-use Rattle.plain_runs.specs.Fitting.{Shape, LeadsTo, with_name, with_names}
+use Rattle.goal_segments.specs.Told.{Shape, LeadsTo, with_name, with_names}
 use Rattle.value_terms.specs.Readings.{number_term, condition}
 use Rattle.value_terms.specs.Terms.{term_of}
 use Rattle.value_terms.specs.Words.{Item, formula_of, word_of}

@@ -21,8 +21,7 @@ use Rattle.rte_checks.specs.Checks.{constant_of}
 use Rattle.core_checks.specs.Tree as core
 use Rattle.core_checks.specs.Tree.{Goal}
 use Rattle.plain_states.specs.Slots.{Sizes, value_slot, flag_slot, result_slot, temp_slot}
-use Rattle.plain_runs.specs.Fitting.{Shape, sizes}
-use Rattle.plain_runs.specs.Kept.{temps}
+use Rattle.goal_segments.specs.Told.{Shape, sizes, temps}
 use Rattle.value_terms.specs.Readings.{Term, number_term, condition, term_at}
 use Rattle.value_terms.specs.Terms.{term_of, terms_of}
 use Rattle.value_terms.specs.Words.{Item, asked, known, word_of, words}

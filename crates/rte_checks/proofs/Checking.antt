@@ -4,7 +4,7 @@ use Rattle.std.specs.Prelude.{map}
 use Rattle.std.proofs.lemmas.Bool.{and_parts, false≢true}
 use Rattle.typed_prog.specs.declared.types.CoreType.{CoreType}
 use Rattle.typed_prog.specs.Tree as t
-use Rattle.acsl_truth.specs.States.{Value}
+use Rattle.c_runs.specs.Told.{Value}
 use Rattle.c_runs.specs.Program.{Facts, Variable}
 use Rattle.c_runs.specs.States.{World}
 use Rattle.c_runs.specs.Operators.{Undefined, is, wrong}

@@ -18,8 +18,7 @@ use Rattle.typed_prog.specs.declared.operators.Step.{Step}
 use Rattle.typed_prog.specs.declared.operators.Step.TheVariants as step
 use Rattle.typed_prog.specs.Tree as t
 use Rattle.qed_terms.specs.Operators.{is_equal}
-use Rattle.acsl_truth.specs.States.{Value, number, number_of, block_of, offset_of}
-use Rattle.acsl_truth.specs.Truth.{value_at}
+use Rattle.c_runs.specs.Told.{Value, number, number_of, block_of, offset_of, value_at}
 use Rattle.c_runs.specs.Program.{Facts, Variable}
 use Rattle.c_runs.specs.States.{World, no_locals}
 use Rattle.c_runs.specs.Operators.{Undefined, init, access, index, fits, may_point, may_compare}

@@ -16,8 +16,7 @@ use Rattle.typed_prog.specs.declared.operators.Op.{Op}
 use Rattle.typed_prog.specs.declared.operators.Op.TheVariants as op
 use Rattle.typed_prog.specs.Tree as t
 use Rattle.qed_terms.specs.Operators.{is_zero, is_equal}
-use Rattle.acsl_truth.specs.States.{Value}
-use Rattle.acsl_truth.specs.Truth.{first, second}
+use Rattle.c_runs.specs.Told.{Value, first, second}
 use Rattle.c_runs.specs.Program.{Variable}
 use Rattle.c_runs.specs.Operators.{overflow, divzero, shift, pointing, comparing, may_shift, may_divide, is_order}
 use Rattle.c_runs.specs.Objects.{plain_root, is_sure, address}

@@ -15,8 +15,7 @@ use Rattle.typed_prog.specs.declared.operators.Step.{Step}
 use Rattle.typed_prog.specs.declared.operators.Step.TheVariants as step
 use Rattle.typed_prog.specs.Tree as t
 use Rattle.qed_terms.specs.Operators.{is_zero, is_equal}
-use Rattle.acsl_truth.specs.States.{Value, number, number_of}
-use Rattle.acsl_truth.specs.Truth.{second, value_at}
+use Rattle.c_runs.specs.Told.{Value, number, number_of, second, value_at}
 use Rattle.c_runs.specs.Program.{Facts, Variable}
 use Rattle.c_runs.specs.States.{Local, plain, home, World, held_by}
 use Rattle.c_runs.specs.Operators.{Undefined, init, overflow, divzero, shift, access, index, pointing, comparing, Val, is, wrong, where_true, fits, may_divide, may_shift, may_shift_left, arithmetic, computed, is_order}

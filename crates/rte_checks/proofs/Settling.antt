@@ -1,7 +1,7 @@
 -- A value, or what the first check that isn't met says: lists of checks put together.
 use Rattle.std.proofs.Common.{◌≡◌, ℕ, Bool, true, false, List, [], ◌∷◌, ◌++◌, refl}
 use Rattle.std.specs.Prelude.{if◌then◌else◌, map}
-use Rattle.acsl_truth.specs.States.{Value}
+use Rattle.c_runs.specs.Told.{Value}
 use Rattle.c_runs.specs.Operators.{Undefined, Val, is, wrong, where_true}
 use Rattle.c_runs.specs.Values.{are, wrongs, push_val, with_vals}
 use Rattle.rte_checks.specs.Checks.{Check, here, one_if}

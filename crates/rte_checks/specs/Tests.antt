@@ -12,8 +12,7 @@ use Rattle.typed_prog.specs.declared.operators.Step.{Step}
 use Rattle.typed_prog.specs.declared.operators.Step.TheVariants as step
 use Rattle.typed_prog.specs.Tree as t
 use Rattle.qed_terms.specs.Operators.{is_zero}
-use Rattle.acsl_truth.specs.States.{Value, number, null, number_of}
-use Rattle.acsl_truth.specs.Truth.{compare, compare_pointers, first, second, value_at}
+use Rattle.c_runs.specs.Told.{Value, number, null, number_of, compare, compare_pointers, first, second, value_at}
 use Rattle.c_runs.specs.Program.{Facts, Variable}
 use Rattle.c_runs.specs.States.{Local, plain, home, World, held_by, is_nonzero}
 use Rattle.c_runs.specs.Operators.{Undefined, init, overflow, divzero, shift, access, index, pointing, comparing, truth_number, within, fits, may_divide, may_shift, may_shift_left, arithmetic, complement, may_point, may_compare, is_order, difference}

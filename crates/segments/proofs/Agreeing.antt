@@ -11,8 +11,7 @@ use Rattle.c_runs.specs.Claims as broken
 use Rattle.c_runs.specs.Claims.{Stop, undefined, failed, claimed, all_together, ensured_by}
 use Rattle.c_runs.specs.Calls.{Eval}
 use Rattle.c_runs.specs.Effects.{wrote_act, granted}
-use Rattle.core_runs.specs.Run.{CoreWorld, Ending, goes_on, then_do, with_eval, in_world, block_end, scope_end, unless}
-use Rattle.rte_checks.specs.Checks.{Check}
+use Rattle.core_checks.specs.Told.{CoreWorld, Ending, goes_on, then_do, with_eval, in_world, block_end, scope_end, unless, Check}
 use Rattle.core_checks.specs.Tree.{Step, Steps}
 use Rattle.core_checks.specs.Run.{asked, put_by, put_to, stored_value, way_values, Deeper, returned, exec, exec_all}
 use Rattle.segments.specs.Segments as seg

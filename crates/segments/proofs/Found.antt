@@ -11,11 +11,9 @@ use Rattle.c_runs.specs.Claims as broken
 use Rattle.c_runs.specs.Claims.{Stop, holds, in_body, in_state, at_entry, at_return, is_assumed, assumed_of, is_so, one_at_most, in_order, parts_of, here_in}
 use Rattle.c_runs.specs.Scopes.{entered, arrived}
 use Rattle.c_runs.specs.Calls.{Eval, gives, stops}
-use Rattle.core_runs.specs.Run.{CoreWorld, Ending, goes_on, exits, returns, stopped, in_world, begun}
+use Rattle.core_checks.specs.Told.{CoreWorld, Ending, goes_on, exits, returns, stopped, in_world, begun, normal, Check}
 use Rattle.c_runs.specs.Run.{at_first}
-use Rattle.normal_stmts.specs.Normal.{normal}
 use Rattle.core_checks.specs.Adding.{add_checks}
-use Rattle.rte_checks.specs.Checks.{Check}
 use Rattle.core_checks.specs.Tree.{Step, set, store, start, call, branch, repeat, around, exit, give, claim, scope, Steps, end, then_}
 use Rattle.segments.specs.Segments as seg
 use Rattle.segments.specs.Segments.{Asks, Claims, BlockEnds, ScopeEnds, object_at, test_in, test_at, total_in, Runs, AllRun, Behaves, Promises, BodyEnds, behind_call, FunctionRuns}

@@ -9,15 +9,11 @@ use Rattle.c_runs.specs.Scopes.{arrived}
 use Rattle.c_runs.specs.Calls.{Eval, gives, unless, keeps_promises, back_in, entered_by, Runner, found}
 use Rattle.c_runs.specs.Run as spelled
 use Rattle.c_runs.specs.Run.{outside, at_first}
-use Rattle.core_runs.specs.Core.{Cores}
-use Rattle.core_runs.specs.Run.{Ending, stopped, begun}
-use Rattle.normal_stmts.specs.Normal.{normal_function, normal}
-use Rattle.normal_stmts.specs.Laws.{are_core}
+use Rattle.core_checks.specs.Told.{Cores, Ending, stopped, begun, normal_function, normal, are_core}
 use Rattle.core_checks.specs.Tree.{Steps}
 use Rattle.core_checks.specs.Adding.{function_of, add_checks}
 use Rattle.core_checks.specs.Run.{returned, body, levels, run_function}
-use Rattle.normal_stmts.proofs.Outcomes.{same_outcome}
-use Rattle.normal_stmts.proofs.Pureness.{all_core}
+use Rattle.core_checks.proofs.Told.{same_outcome, all_core}
 use Rattle.core_checks.specs.Laws.{IsCore}
 use Rattle.core_checks.proofs.Running.{checks_keep}
 use Rattle.segments.specs.Laws.{goal_function, SegmentRunsAreRuns}

@@ -6,7 +6,7 @@ use Rattle.c_runs.specs.States.{Memory}
 use Rattle.c_runs.specs.Claims.{at_entry, required}
 use Rattle.c_runs.specs.Calls.{Eval}
 use Rattle.c_runs.specs.Run.{at_first, run_function}
-use Rattle.normal_stmts.specs.Normal.{normal_function, normal}
+use Rattle.core_checks.specs.Told.{normal_function, normal}
 use Rattle.core_checks.specs.Tree.{Step, set, store, start, call, branch, repeat, around, exit, give, claim, scope, Steps, end, then_}
 use Rattle.core_checks.specs.Adding.{function_of, add_checks}
 use Rattle.segments.specs.Segments.{FunctionRuns}

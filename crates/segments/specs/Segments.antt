@@ -16,9 +16,7 @@ use Rattle.c_runs.specs.Claims.{Stop, undefined, failed, holds, in_body, in_stat
 use Rattle.c_runs.specs.Scopes.{entered, left, arrived}
 use Rattle.c_runs.specs.Calls.{Eval, gives, stops, nought}
 use Rattle.c_runs.specs.Effects.{kind_there, initial_act}
-use Rattle.core_runs.specs.Run.{CoreWorld, Ending, goes_on, exits, returns, stopped, in_world, with_temp, scope_left, begun}
-use Rattle.rte_checks.specs.Checks.{Check}
-use Rattle.rte_checks.specs.Tests.{total, totals, is_met}
+use Rattle.core_checks.specs.Told.{CoreWorld, Ending, goes_on, exits, returns, stopped, in_world, with_temp, scope_left, begun, Check, total, totals, is_met}
 use Rattle.core_checks.specs.Tree.{Step, set, store, start, branch, around, exit, give, claim, scope, Steps, end, then_}
 use Rattle.core_checks.specs.Run.{place_test, stored_value, way_values}
 

@@ -10,10 +10,9 @@ use Rattle.program_steps.specs.Temporaries.{no_temporaries}
 use Rattle.walk_steps.specs.Walk.{Goal}
 use Rattle.program_goals.specs.Programs.{goals_of}
 use Rattle.slot_names.specs.Bases.{Name}
-use Rattle.plain_goals.specs.Files.{FunctionGoals, core_of, names_in, own_names, text_at, setting_of_file, written_for, written_by, goals_at, body_goals, file_goals}
-use Rattle.plain_sources.specs.Sources.{Source}
-use Rattle.plain_sources.specs.Built.{first_names}
-use Rattle.plain_sources.proofs.Verified.{names_are}
+use Rattle.logic_sources.specs.Told.{FunctionGoals, core_of, names_in, own_names, text_at, setting_of_file, written_for, written_by, goals_at, body_goals}
+use Rattle.logic_sources.specs.Told.{file_goals, Source, first_names}
+use Rattle.logic_sources.proofs.Told.{names_are}
 use Rattle.logic_sources.specs.Built.{names_of, texts_in}
 use Rattle.source_goals.specs.Walked.{goals_by, body_goals_by}
 use Rattle.source_goals.specs.Laws.{WalksAreOfSources}

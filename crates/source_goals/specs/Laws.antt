@@ -3,9 +3,7 @@ use Rattle.std.specs.Prelude.{◌≡◌, ℕ, List}
 use Rattle.wp_base.specs.declared.kinds.Kind.{Kind}
 use Rattle.c_kinds.specs.declared.models.Machdep.{Machdep}
 use Rattle.c_syntax.specs.declared.token.Token.{Token}
-use Rattle.plain_goals.specs.Files.{core_of, names_in, setting_of_file, file_goals}
-use Rattle.plain_goals.specs.Laws.{IsMet}
-use Rattle.plain_sources.specs.Sources.{Source}
+use Rattle.logic_sources.specs.Told.{core_of, names_in, setting_of_file, file_goals, IsMet, Source}
 use Rattle.logic_sources.specs.Built.{names_of, texts_in}
 use Rattle.source_goals.specs.Walked.{AllBodiesClosed, file_goals_by}
 

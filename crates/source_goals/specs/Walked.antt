@@ -12,8 +12,7 @@ use Rattle.walk_steps.specs.Walk.{Goal}
 use Rattle.program_steps.specs.Terms.{Texts}
 use Rattle.program_goals.specs.Programs.{goals_of}
 use Rattle.slot_names.specs.Bases.{Name}
-use Rattle.plain_goals.specs.Files.{FunctionGoals, written_for}
-use Rattle.plain_sources.specs.Built.{first_names}
+use Rattle.logic_sources.specs.Told.{FunctionGoals, written_for, first_names}
 
 module _ (setting : Setting) (t : u.Typed) (q : Program Steps) (texts : Texts) (file : List Name) (kinds : (function number : ℕ) → Kind) where
   abbrev pub goals_by : (function : ℕ) → Option (Function Steps) → List Goal

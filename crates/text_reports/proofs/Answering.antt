@@ -15,8 +15,7 @@ use Rattle.typed_unit.specs.Unit as u
 use Rattle.acsl_typing.specs.Annotations.{Annotations}
 use Rattle.acsl_annotated.specs.Annotated.{file_expanded}
 use Rattle.c_typing.specs.Typing.{typed_program}
-use Rattle.plain_sources.specs.Sources.{Source, source_of}
-use Rattle.logic_sources.specs.Built.{is_verified}
+use Rattle.plain_front.specs.Told.{Source, source_of, is_verified}
 use Rattle.plain_front.specs.Text.{Spells, HasFault, unlexed, unspelled, past, untyped, unbuilt}
 use Rattle.wp_words.specs.Command.{Wanted}
 use Rattle.file_reports.specs.Made.{Makes, source_by}

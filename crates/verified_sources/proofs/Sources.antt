@@ -6,8 +6,7 @@ use Rattle.c_runs.specs.Program.{Stmts, Function}
 use Rattle.c_programs.specs.Files.{program_of}
 use Rattle.plain_test.specs.Plain.{is_plain_file}
 use Rattle.binder_names.specs.Tables.{is_named_table}
-use Rattle.plain_sources.specs.Sources.{Source}
-use Rattle.plain_sources.specs.Built.{facts_in, table_in, loops_fit, sets_fit}
+use Rattle.logic_sources.specs.Told.{Source, facts_in, table_in, loops_fit, sets_fit}
 use Rattle.verified_sources.specs.Tests.{loops_stand, body_stands}
 use Rattle.logic_order.specs.Order.{is_in_order}
 use Rattle.logic_sources.specs.Built.{spelled_in, body_fits, is_verified}

@@ -1,9 +1,7 @@
 -- What the tests say.
 use Rattle.std.specs.Prelude.{◌≡◌}
 use Rattle.c_programs.specs.Files.{program_of}
-use Rattle.plain_goals.specs.Files.{core_of, names_in}
-use Rattle.plain_sources.specs.Sources.{Source}
-use Rattle.plain_sources.specs.Built.{table_in}
+use Rattle.logic_sources.specs.Told.{core_of, names_in, Source, table_in}
 use Rattle.logic_sources.specs.Built.{is_verified}
 use Rattle.verified_sources.specs.Tests.{is_verified_by}
 

@@ -12,18 +12,13 @@ pub returns : goal.returns
 returns g c first gs h =
     let self = c.args.self.now in
     let v = c.in_ok-verdict.verdict in
-    let known : c.in_ok-goal.goal.known ≡ c.args.known.now = search (rules, c.in_ok-goal.ensures.known) in
-    let check : c.in_ok-goal.goal.check ≡ c.args.claim.now = search (rules, c.in_ok-goal.ensures.check) in
     let asked : Goal = record { number = length gs; place = view_place c.args.place; known = map formula_tree c.args.known.now; claim = formula_tree c.args.claim.now } in
-    let said =
-    subst (λ j. g.J.Judge.says j (goal_of (map formula_tree c.args.known.now) (formula_tree c.args.claim.now)) v) h.0
-    (subst (λ ks. g.J.Judge.says self.judge (goal_of (map formula_tree ks) (formula_tree c.args.claim.now)) v) known
-    (subst (λ f. g.J.Judge.says self.judge (goal_of (map formula_tree c.in_ok-goal.goal.known) (formula_tree f)) v) check c.in_ok-verdict.ensures)) in
+    let said = subst (λ j. g.J.Judge.says j (goal_of (map formula_tree c.args.known.now) (formula_tree c.args.claim.now)) v) h.0 c.in_ok-verdict.ensures in
     let number : c.in_ok-number.number ≡ self.goals + 1 = search (rules, c.in_ok-number.ensures) in
     let put =
     c.in_ok-put_judged.ensures
     ∙ (λ i. self.text.items ++ spec.lines_of (h.2 i) c.in_ok-number.number
-    (record { place = view_place c.args.place; verdict = v; text = shown (h.1 i) (map formula_tree (known i)) (formula_tree (check i)) })) in (
+    (record { place = view_place c.args.place; verdict = v; text = shown (h.1 i) (map formula_tree c.args.known.now) (formula_tree c.args.claim.now) })) in (
       h.0,
       h.1,
       h.2,

@@ -13,10 +13,10 @@ use wp_base::{Boxed, List, NoMemory, Str};
 fn pair<T: Drop>(alloc: Global, left: T, right: T) -> Result<List<T>, NoMemory>
     ensures { IfOk result (λ kids. kids ≡ left ∷ right ∷ []) }
 {
-    let mut kids = List::new(alloc);
+    let mut kids = Vec::with_capacity(alloc, 2)?;
     kids.push(left)?;
     kids.push(right)?;
-    Ok(kids)
+    Ok(List::from_vec(kids))
 }
 
 impl Term {

@@ -169,11 +169,11 @@ fn copy_formula(formula: &Boxed<Formula>, alloc: Global) -> Result<Boxed<Formula
 pub fn copy_terms(terms: &List<Term>, alloc: Global) -> Result<List<Term>, NoMemory>
     ensures { IfOk result (λ copies. copies ≡ terms.now) }
 {
-    let mut copies = List::new(alloc);
+    let mut copies = Vec::with_capacity(alloc, terms.len())?;
     for term in terms.as_slice() {
         copies.push(term.copy(alloc)?)?;
     }
-    Ok(copies)
+    Ok(List::from_vec(copies))
 }
 
 /// A copy of a list of formulas, which equals its source.
@@ -181,11 +181,11 @@ pub fn copy_terms(terms: &List<Term>, alloc: Global) -> Result<List<Term>, NoMem
 pub fn copy_formulas(formulas: &List<Formula>, alloc: Global) -> Result<List<Formula>, NoMemory>
     ensures { IfOk result (λ copies. copies ≡ formulas.now) }
 {
-    let mut copies = List::new(alloc);
+    let mut copies = Vec::with_capacity(alloc, formulas.len())?;
     for formula in formulas.as_slice() {
         copies.push(formula.copy(alloc)?)?;
     }
-    Ok(copies)
+    Ok(List::from_vec(copies))
 }
 
 impl Goal {

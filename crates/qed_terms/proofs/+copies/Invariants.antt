@@ -3,7 +3,7 @@ use Rattle.qed_terms.proofs.+copies.Given as goal
 
 -- the copies so far are the terms so far
 abbrev pub invariant-copies::copy_terms-loop-term : goal.invariant-copies::copy_terms-loop-term
-invariant-copies::copy_terms-loop-term l = l.copies ≡ take l.term-index l.terms
+invariant-copies::copy_terms-loop-term l = l.copies.items ≡ take l.term-index l.terms
 
 abbrev pub invariant-copies::copy_formulas-loop-formula : goal.invariant-copies::copy_formulas-loop-formula
-invariant-copies::copy_formulas-loop-formula l = l.copies ≡ take l.formula-index l.formulas
+invariant-copies::copy_formulas-loop-formula l = l.copies.items ≡ take l.formula-index l.formulas

@@ -286,14 +286,14 @@ high_fits true t h = h
 high_fits false t h = arithmetic_fits ar.Add t (num (pos 1)) h (number_fits (pos 1))
 
 ends_fit : (m : Machdep) (g : Range) (xs : List Terms) → AllFit xs → Holds EndsFit (ends_of m g xs)
-ends_fit m (range.Between p p') xs h = by (as_integer (terms_at xs 0)) (as_integer (terms_at xs 1)) (integer_fits (terms_at xs 0) (kid_fits xs 0 h))
+ends_fit m (range.Between p p' place) xs h = by (as_integer (terms_at xs 0)) (as_integer (terms_at xs 1)) (integer_fits (terms_at xs 0) (kid_fits xs 0 h))
     (integer_fits (terms_at xs 1) (kid_fits xs 1 h))
   where
     by : (o o' : Option Term) → Holds IsInt o → Holds IsInt o' → Holds EndsFit (encode.on_two (λ t u. record { low = low_end p t; high = high_end p' u }) o o')
     by (Some t) (Some u) h k = (low_fits p t h, high_fits p' u k)
     by (Some t) None h k = tt
     by None o' h k = tt
-ends_fit m (range.Kind k) xs h = (number_fits (low m k), number_fits (high m k +ℤ pos 1))
+ends_fit m (range.Kind k place) xs h = (number_fits (low m k), number_fits (high m k +ℤ pos 1))
 
 -- the head may stand for a formula, and binds a name
 abbrev Quantifies : TermHead → Type 0

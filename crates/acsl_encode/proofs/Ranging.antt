@@ -74,11 +74,11 @@ module _ (q : Logic) (r : Common) (env : Values) where
 
   pub ends_mean : (g : Range) (xs : List Terms) (vs : List Value) → AllMean q r env xs vs
       → Holds (Reach (least r.model g vs) (greatest r.model g vs)) (ends_of r.model g xs)
-  ends_mean (range.Between p p') xs vs h =
+  ends_mean (range.Between p p' place) xs vs h =
       both_ends p p' (value_at vs 0) (value_at vs 1) (as_integer (terms_at xs 0)) (as_integer (terms_at xs 1))
       (as_number q r env (terms_at xs 0) (value_at vs 0) (kid_means q r env xs vs 0 h))
       (as_number q r env (terms_at xs 1) (value_at vs 1) (kid_means q r env xs vs 1 h))
-  ends_mean (range.Kind k) xs vs h = (refl, refl)
+  ends_mean (range.Kind k place) xs vs h = (refl, refl)
 
   -- ---- quantifiers
 
@@ -113,5 +113,5 @@ module _ (q : Logic) (r : Common) (env : Values) where
 
 -- a number between the ends of a kind is one of it
 pub inside_kind : (m : Machdep) (g : Range) (vs : List Value) (z : ℤ) → least m g vs ≤ℤ z → z ≤ℤ greatest m g vs → IsOfKind m (kind_of g) z
-inside_kind m (range.Between p p') vs z le lt = tt
-inside_kind m (range.Kind k) vs z le lt = both_true (le_test (low m k) z le) (le_test z (high m k) lt)
+inside_kind m (range.Between p p' place) vs z le lt = tt
+inside_kind m (range.Kind k place) vs z le lt = both_true (le_test (low m k) z le) (le_test z (high m k) lt)

@@ -334,13 +334,13 @@ high_end true t = t
 high_end false t = one_more t
 
 abbrev pub ends_of : Machdep → Range → List Terms → Option Ends
-ends_of m (range.Between low_out high_out) xs =
+ends_of m (range.Between low_out high_out place) xs =
     on_two (λ t u. record { low = low_end low_out t; high = high_end high_out u }) (as_integer (first xs)) (as_integer (second xs))
-ends_of m (range.Kind k) xs = Some (record { low = num (low m k); high = num (high m k +ℤ pos 1) })
+ends_of m (range.Kind k place) xs = Some (record { low = num (low m k); high = num (high m k +ℤ pos 1) })
 
 abbrev pub kind_of : Range → Option Kind
-kind_of (range.Between low_out high_out) = None
-kind_of (range.Kind k) = Some k
+kind_of (range.Between low_out high_out place) = None
+kind_of (range.Kind k place) = Some k
 
 abbrev pub over : TermHead → Ends → (body : Term) → Term
 over q e f = tree.node q (tree.three e.low e.high f)

@@ -7,6 +7,7 @@ use Rattle.typed_prog.specs.declared.operators.Variable.{Variable}
 use Rattle.typed_prog.specs.declared.operators.Variable.TheVariants as variables
 use Rattle.typed_prog.specs.declared.operators.Arithmetic.TheVariants as ar
 use Rattle.typed_prog.specs.declared.operators.Comparison.TheVariants as cmp
+use Rattle.acsl_trees.specs.declared.heads.BinderPlace.{BinderPlace}
 use Rattle.acsl_trees.specs.declared.heads.Content.TheVariants as content
 use Rattle.acsl_trees.specs.declared.heads.Label.TheVariants as label
 use Rattle.acsl_trees.specs.declared.heads.Range.TheVariants as range
@@ -24,6 +25,10 @@ use Rattle.acsl_encode.specs.Readings.{Slot, at, Seen, Reading}
 use Rattle.acsl_encode.specs.Encode.{op_one, op_two, term_of, formula_of}
 use Rattle.acsl_encode.specs.Binders.{numbered}
 use Rattle.acsl_encode.specs.Setting.{memory_var, memory_name, blocks_name, offsets_name}
+
+-- where quantifiers stand, which says nothing of the truth
+abbrev pub here : BinderPlace
+here = record { line = 1; node = 1 }
 
 -- ---- a reading: an `int` x and a pointer p, and the number of x at entry
 
@@ -138,11 +143,11 @@ pub record States : Type 0 where
   pub result : IsFormula (is_five (leaf h.Result)) (five (var (codes "\\result")))
 
 pub record Binders : Type 0 where
-  pub every : IsFormula (three (h.Every (range.Between true false)) (spelled 0) x_read (is_five (leaf (h.Name 0))))
+  pub every : IsFormula (three (h.Every (range.Between true false here)) (spelled 0) x_read (is_five (leaf (h.Name 0))))
       (tree.node (th.Forall (codes "k!1")) (tree.three (op_two op.Add (num (pos 0)) (num (pos 1))) (op_two op.Add x_term (num (pos 1))) (five k_one)))
-  pub some : IsFormula (three (h.Some (range.Between false true)) (spelled 0) x_read (is_five (leaf (h.Name 0))))
+  pub some : IsFormula (three (h.Some (range.Between false true here)) (spelled 0) x_read (is_five (leaf (h.Name 0))))
       (tree.node (th.Exists (codes "k!1")) (tree.three (num (pos 0)) x_term (five k_one)))
-  pub inner : IsFormula (one (h.Every (range.Kind kind.UChar)) (one (h.Some (range.Kind kind.Bool))
+  pub inner : IsFormula (one (h.Every (range.Kind kind.UChar here)) (one (h.Some (range.Kind kind.Bool here))
       (two (h.Compare cmp.Less) (leaf (h.Name 0)) (leaf (h.Name 1)))))
       (tree.node (th.Forall (codes "k!1")) (tree.three (num (pos 0)) (num (pos 256))
       (tree.node (th.Exists (codes "k!2")) (tree.three (num (pos 0)) (num (pos 2)) (less k_one k_two)))))
@@ -153,7 +158,7 @@ pub record Pointers : Type 0 where
   pub null : IsFormula (two (h.ComparePointers cmp.Equal) p_read (leaf h.Null)) (and_of (equal p_block (num (pos 0)) ∷ equal p_offset (num (pos 0)) ∷ []))
   pub difference : IsTerm (two (h.Difference 2) p_read p_read) (op_two op.Div (op_two op.Sub p_offset p_offset) (num (pos 2)))
   pub valid : IsFormula (one (h.Valid (content.Integer kind.Int) true) (one h.Pointed p_read)) (cell_of (form.Write (cell.Of kind.Int)) p_offset)
-  pub elements : IsFormula (two h.And (one (h.Every (range.Kind kind.Bool)) (is_five (leaf (h.Name 0))))
+  pub elements : IsFormula (two h.And (one (h.Every (range.Kind kind.Bool here)) (is_five (leaf (h.Name 0))))
       (one (h.Valid (content.Struct 0) false) (three (h.Behind 2) p_read (spelled 0) x_read)))
       (and_of (tree.node (th.Forall (codes "k!1")) (tree.three (num (pos 0)) (num (pos 2)) (five k_one))
       ∷ tree.node (th.Forall (codes "k!2")) (tree.three (num (pos 0)) (op_two op.Add x_term (num (pos 1))) (and_of (

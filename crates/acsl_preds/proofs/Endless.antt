@@ -2,6 +2,7 @@
 use Rattle.std.proofs.Common.{◌≡◌, ℕ, Bool, true, false, ◌&&◌, if◌then◌else◌, List, [], ◌∷◌, Option, Some, None, refl, sym, ap, ◌∙◌}
 use Rattle.std.specs.List.{list_any, list_all}
 use Rattle.std.proofs.lemmas.Bool.{and_parts, false≢true}
+use Rattle.acsl_trees.specs.declared.heads.BinderPlace.{BinderPlace}
 use Rattle.acsl_trees.specs.declared.tree.Tree.{Tree as Code, out-Tree}
 use Rattle.acsl_trees.specs.Tree.{Tree, node, view_tree}
 use Rattle.acsl_preds.specs.declared.binders.Over.{Over}
@@ -14,18 +15,18 @@ none_taken [] are = refl
 none_taken (over.Kind k ∷ os) are = none_taken os are
 none_taken (over.Guarded g ∷ os) are = absurd (false≢true are)
 
-no_ends : (a : Bool) (cs : List Tree) (os : List Over) (t : Tree) → list_all is_kind os ≡ true → over_all a cs os t ≡ over_all a [] os t
-no_ends a cs [] t are = refl
-no_ends a cs (over.Kind k ∷ os) t are = ap (over_one a [] (over.Kind k)) (no_ends a cs os t are)
-no_ends a cs (over.Guarded g ∷ os) t are = absurd (false≢true are)
+no_ends : (place : BinderPlace) (a : Bool) (cs : List Tree) (os : List Over) (t : Tree) → list_all is_kind os ≡ true → over_all place a cs os t ≡ over_all place a [] os t
+no_ends place a cs [] t are = refl
+no_ends place a cs (over.Kind k ∷ os) t are = ap (over_one place a [] (over.Kind k)) (no_ends place a cs os t are)
+no_ends place a cs (over.Guarded g ∷ os) t are = absurd (false≢true are)
 
 alone : (t : Tree) → is_and (head_of t) ≡ false → conjuncts t ≡ t ∷ []
 alone (node head ks) is = ap (λ b. if b then conjuncts_in ks else node head ks ∷ []) is
 
-whole_is : (os : List Over) (t : Tree) → list_all is_kind os ≡ true → is_and (head_of t) ≡ false → some os t ≡ over_all false [] os t
-whole_is os t are is =
-    ap (λ cs. over_all false cs os (or_truth (kept os 0 None cs))) (alone t is)
-    ∙ ap (λ b. over_all false (t ∷ []) os (or_truth (if b then None else Some t))) (none_taken os are) ∙ no_ends false (t ∷ []) os t are
+whole_is : (place : BinderPlace) (os : List Over) (t : Tree) → list_all is_kind os ≡ true → is_and (head_of t) ≡ false → some place os t ≡ over_all place false [] os t
+whole_is place os t are is =
+    ap (λ cs. over_all place false cs os (or_truth (kept os 0 None cs))) (alone t is)
+    ∙ ap (λ b. over_all place false (t ∷ []) os (or_truth (if b then None else Some t))) (none_taken os are) ∙ no_ends place false (t ∷ []) os t are
 
-pub some_of_kinds : (os : List Over) (c : Code) (r : Tree) → is_and (out-Tree c).head ≡ false → list_all is_kind os ≡ true → r ≡ over_all false [] os (view_tree c) → r ≡ some os (view_tree c)
-some_of_kinds os c r is are made = made ∙ sym (whole_is os (view_tree c) are (ap is_and (head_is c) ∙ is))
+pub some_of_kinds : (place : BinderPlace) (os : List Over) (c : Code) (r : Tree) → is_and (out-Tree c).head ≡ false → list_all is_kind os ≡ true → r ≡ over_all place false [] os (view_tree c) → r ≡ some place os (view_tree c)
+some_of_kinds place os c r is are made = made ∙ sym (whole_is place os (view_tree c) are (ap is_and (head_is c) ∙ is))

@@ -2,6 +2,7 @@
 use Rattle.std.proofs.Common.{◌≡◌, ℕ, zero, suc, ◌-◌, ◌+◌, ◌<◌, ◌≤◌, Bool, List, [], ◌∷◌, length, take, drop, get_or, Option, sym, ap, ◌∙◌, arith}
 use Rattle.std.specs.Borrow.{Bor}
 use Rattle.std.proofs.lemmas.List.{at_drop_more, at_drop_all}
+use Rattle.acsl_trees.specs.declared.heads.BinderPlace.{BinderPlace}
 use Rattle.acsl_trees.specs.declared.tree.Tree.{Tree as Code}
 use Rattle.acsl_trees.specs.Tree.{Tree, view_tree}
 use Rattle.acsl_preds.specs.declared.binders.Over.{Over}
@@ -9,18 +10,18 @@ use Rattle.acsl_preds.specs.Ranges.{over_one, over_all, kept_with, kept, pointed
 
 -- ---- binders
 
-innermost : (a : Bool) (cs : List Tree) (os : List Over) (n : ℕ) (o : Over) (t : Tree) → n < length os → o ≡ get_or os n o → over_all a cs (take (suc n) os) t ≡ over_all a cs (take n os) (over_one a cs o t)
-innermost a cs [] n o t inside is = grind arith
-innermost a cs (p ∷ os) zero o t inside is = ap (λ q. over_one a cs q t) (sym is)
-innermost a cs (p ∷ os) (suc n) o t inside is = ap (over_one a cs p) (innermost a cs os n o t (omega (arith, inside)) is)
+innermost : (place : BinderPlace) (a : Bool) (cs : List Tree) (os : List Over) (n : ℕ) (o : Over) (t : Tree) → n < length os → o ≡ get_or os n o → over_all place a cs (take (suc n) os) t ≡ over_all place a cs (take n os) (over_one place a cs o t)
+innermost place a cs [] n o t inside is = grind arith
+innermost place a cs (p ∷ os) zero o t inside is = ap (λ q. over_one place a cs q t) (sym is)
+innermost place a cs (p ∷ os) (suc n) o t inside is = ap (over_one place a cs p) (innermost place a cs os n o t (omega (arith, inside)) is)
 
 before_is : (n m : ℕ) → 0 < m → n ≡ m - 1 → suc n ≡ m
 before_is n m some is = omega (arith, some, is)
 
-pub nest_turn : (a : Bool) (cs : List Tree) (os : List Over) (n m : ℕ) (o : Over) (t t' whole : Tree) → 0 < m → m ≤ length os → n ≡ m - 1 → t' ≡ over_one a cs o t → o ≡ get_or os n o
-    → over_all a cs (take m os) t ≡ whole → over_all a cs (take n os) t' ≡ whole
-nest_turn a cs os n m o t t' whole some within count made is so_far =
-    ap (over_all a cs (take n os)) made ∙ sym (innermost a cs os n o t (omega (arith, some, within, count)) is) ∙ ap (λ k. over_all a cs (take k os) t) (before_is n m some count) ∙ so_far
+pub nest_turn : (place : BinderPlace) (a : Bool) (cs : List Tree) (os : List Over) (n m : ℕ) (o : Over) (t t' whole : Tree) → 0 < m → m ≤ length os → n ≡ m - 1 → t' ≡ over_one place a cs o t → o ≡ get_or os n o
+    → over_all place a cs (take m os) t ≡ whole → over_all place a cs (take n os) t' ≡ whole
+nest_turn place a cs os n m o t t' whole some within count made is so_far =
+    ap (over_all place a cs (take n os)) made ∙ sym (innermost place a cs os n o t (omega (arith, some, within, count)) is) ∙ ap (λ k. over_all place a cs (take k os) t) (before_is n m some count) ∙ so_far
 
 pub ruleset nest_laws = (nest_turn)
 

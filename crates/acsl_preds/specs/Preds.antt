@@ -7,6 +7,7 @@ use Rattle.c_syntax.specs.Expr as e
 use Rattle.c_syntax.specs.Pred as p
 use Rattle.c_answers.specs.Answers.{Answer, after, wrong}
 use Rattle.acsl_guards.specs.Guarding.{guards}
+use Rattle.acsl_trees.specs.declared.heads.BinderPlace.{BinderPlace}
 use Rattle.acsl_trees.specs.declared.heads.Head.{Head}
 use Rattle.acsl_trees.specs.declared.heads.Head.TheVariants as head
 use Rattle.acsl_trees.specs.declared.heads.Label.{Label}
@@ -101,6 +102,10 @@ number false = leaf (head.Number (pos 0))
 abbrev pub binders_typed : Around → Bound → Limit → (for_all : Bool) → List e.VarDecl → p.Pred → Answer (List Over × Bound)
 binders_typed c b at a ds body = ended at at at (binders c (inside b) ds (guards a ds body))
 
+-- where a quantifier on this line stands, behind what was counted: its own node is counted too
+abbrev pub place_at : (line : ℕ) → Count → BinderPlace
+place_at line n = record { line = line; node = (with_node line n).weight.own }
+
 abbrev pub truth_typed : Count → (line : ℕ) → (is_true : Bool) → Answer (Tree × Count)
 truth_typed n line is_true = leafed line n (Ok (number is_true))
 
@@ -127,9 +132,9 @@ abbrev mutual
       after (typed c b r (with_node line n) value) (λ v. after (typed_pred c (with_bound (inside b) x (let_value line v.0).type) r v.1 a)
       (λ t. closed n.limit (with_node line n).limit t.1 (let_tree line (let_value line v.0).is_value (let_value line v.0).tree t.0)))
   typed_pred c b r n (p.for_all line ds a) =
-      after (binders_typed c b (with_node line n).limit true ds a) (λ o. after (typed_pred c o.1 r (with_node line n) a) (λ t. Ok (quantified true o.0 t.0, t.1)))
+      after (binders_typed c b (with_node line n).limit true ds a) (λ o. after (typed_pred c o.1 r (with_node line n) a) (λ t. Ok (quantified (place_at line n) true o.0 t.0, t.1)))
   typed_pred c b r n (p.for_some line ds a) =
-      after (binders_typed c b (with_node line n).limit false ds a) (λ o. after (typed_pred c o.1 r (with_node line n) a) (λ t. Ok (quantified false o.0 t.0, t.1)))
+      after (binders_typed c b (with_node line n).limit false ds a) (λ o. after (typed_pred c o.1 r (with_node line n) a) (λ t. Ok (quantified (place_at line n) false o.0 t.0, t.1)))
 
 -- what stands between two predicates
 abbrev pub two_typed : Around → Bound → Reading → Count → (line : ℕ) → Head → p.Pred → p.Pred → Answer (Tree × Count)
@@ -138,4 +143,4 @@ two_typed c b r n line h a d = after (typed_pred c b r n a) (λ x. after (typed_
 -- a quantifier
 abbrev pub quantifier_typed : Around → Bound → Reading → Count → (line : ℕ) → (for_all : Bool) → List e.VarDecl → p.Pred → Answer (Tree × Count)
 quantifier_typed c b r n line a ds body =
-    after (binders_typed c b (with_node line n).limit a ds body) (λ o. after (typed_pred c o.1 r (with_node line n) body) (λ t. Ok (quantified a o.0 t.0, t.1)))
+    after (binders_typed c b (with_node line n).limit a ds body) (λ o. after (typed_pred c o.1 r (with_node line n) body) (λ t. Ok (quantified (place_at line n) a o.0 t.0, t.1)))

@@ -1,9 +1,10 @@
 -- Quantifiers over ranges (ACSL 2.2.2): a chain of comparisons that says no more than the range of a binder is taken out of the conjuncts, and its
--- ends are the ends of the range.
+-- ends are the ends of the range. Each range has the place of the quantifier.
 use Rattle.std.specs.Prelude.{ℕ, pos, Bool, true, false, ◌&&◌, ◌==◌, ◌+◌, List, [], ◌∷◌, ◌++◌, map, length, ◌-◌, Option, Some, None, if◌then◌else◌, slice_get}
 use Rattle.std.specs.Borrow.{Bor}
 use Rattle.std.specs.List.{list_any}
 use Rattle.acsl_guards.specs.declared.ranges.Guard.{Guard}
+use Rattle.acsl_trees.specs.declared.heads.BinderPlace.{BinderPlace}
 use Rattle.acsl_trees.specs.declared.heads.Head.{Head}
 use Rattle.acsl_trees.specs.declared.heads.Head.TheVariants as head
 use Rattle.acsl_trees.specs.declared.heads.Range.{Range}
@@ -102,15 +103,15 @@ abbrev pub quantifier : (for_all : Bool) → Range → Head
 quantifier true r = head.Every r
 quantifier false r = head.Some r
 
-abbrev pub over_one : (for_all : Bool) → List Tree → Over → Tree → Tree
-over_one a cs (over.Kind k) t = one (quantifier a (range.Kind k)) t
-over_one a cs (over.Guarded g) t =
-    three (quantifier a (range.Between g.low_strict g.high_strict)) (low_end cs g) (high_end cs g) t
+abbrev pub over_one : BinderPlace → (for_all : Bool) → List Tree → Over → Tree → Tree
+over_one place a cs (over.Kind k) t = one (quantifier a (range.Kind k place)) t
+over_one place a cs (over.Guarded g) t =
+    three (quantifier a (range.Between g.low_strict g.high_strict place)) (low_end cs g) (high_end cs g) t
 
 -- each binder over its range, the first one outermost
-abbrev pub over_all : (for_all : Bool) → List Tree → List Over → Tree → Tree
-over_all a cs [] t = t
-over_all a cs (o ∷ os) t = over_one a cs o (over_all a cs os t)
+abbrev pub over_all : BinderPlace → (for_all : Bool) → List Tree → List Over → Tree → Tree
+over_all place a cs [] t = t
+over_all place a cs (o ∷ os) t = over_one place a cs o (over_all place a cs os t)
 
 abbrev pub is_implication : Head → Bool
 is_implication head.Implies = true
@@ -121,8 +122,8 @@ abbrev pub under : Option Tree → Tree → Tree
 under None t = t
 under (Some a) t = two head.Implies a t
 
-abbrev pub every_under : List Over → List Tree → Tree → Tree
-every_under os cs t = over_all true cs os (under (kept os 0 None cs) t)
+abbrev pub every_under : BinderPlace → List Over → List Tree → Tree → Tree
+every_under place os cs t = over_all place true cs os (under (kept os 0 None cs) t)
 
 -- the sides of `==>`
 abbrev pub pair_of : Option Tree → Option Tree → (two : Bool) → Option (Tree × Tree)
@@ -132,22 +133,22 @@ pair_of a t two = None
 abbrev pub sides_of : List Tree → Option (Tree × Tree)
 sides_of ts = pair_of (slice_get ts 0) (slice_get ts 1) (length ts == 2)
 
-abbrev pub every_sides : List Over → (body : Tree) → Option (Tree × Tree) → Tree
-every_sides os body (Some (a, t)) = every_under os (conjuncts a) t
-every_sides os body None = over_all true [] os body
+abbrev pub every_sides : BinderPlace → List Over → (body : Tree) → Option (Tree × Tree) → Tree
+every_sides place os body (Some (a, t)) = every_under place os (conjuncts a) t
+every_sides place os body None = over_all place true [] os body
 
 abbrev pub head_of : Tree → Head
 head_of (node h kids) = h
 
-abbrev pub every : List Over → Tree → Tree
-every os body = if is_implication (head_of body) then every_sides os body (sides_of (kids_of body)) else over_all true [] os body
+abbrev pub every : BinderPlace → List Over → Tree → Tree
+every place os body = if is_implication (head_of body) then every_sides place os body (sides_of (kids_of body)) else over_all place true [] os body
 
-abbrev pub some : List Over → Tree → Tree
-some os t = over_all false (conjuncts t) os (or_truth (kept os 0 None (conjuncts t)))
+abbrev pub some : BinderPlace → List Over → Tree → Tree
+some place os t = over_all place false (conjuncts t) os (or_truth (kept os 0 None (conjuncts t)))
 
-unfoldable pub quantified : (for_all : Bool) → List Over → Tree → Tree
-quantified true os t = every os t
-quantified false os t = some os t
+unfoldable pub quantified : BinderPlace → (for_all : Bool) → List Over → Tree → Tree
+quantified place true os t = every place os t
+quantified place false os t = some place os t
 
 -- trees in memory that are pointed to
 abbrev pub pointed : List (Bor Code) → List Tree

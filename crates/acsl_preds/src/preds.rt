@@ -16,7 +16,7 @@ use acsl_names::{Around, Bound, Count, Limit, Reading, ended, old_at};
 use acsl_places::{typed_separated, typed_valid};
 use acsl_rules::{one, three, two};
 use acsl_terms::{called_at, closed_tree, predicate_call, typed_term};
-use acsl_trees::{Head, Tree};
+use acsl_trees::{BinderPlace, Head, Tree};
 use c_syntax::{Pred, PredLeaf, PredOne, PredShape, PredTwo, Term, VarDecl};
 use std::alloc::Global;
 use wp_base::{Line, List, Stop, Str};
@@ -362,9 +362,13 @@ fn quantifier(
     ensures names { OnOk result (names.new ≡ names.old) }
 {
     count.add_node(line);
+    let place = BinderPlace {
+        line,
+        node: count.weight.own,
+    };
     let known = names.types.len();
     let overs = binders_typed(alloc, around, names, count.limit, for_all, decls, inside)?;
     let body = typed_pred(alloc, around, names, reading, count, inside)?;
     leave(alloc, names, known);
-    Ok(quantified(alloc, for_all, overs.as_slice(), body)?)
+    Ok(quantified(alloc, place, for_all, overs.as_slice(), body)?)
 }

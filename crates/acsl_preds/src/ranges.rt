@@ -8,7 +8,7 @@ ghost use Rattle.acsl_trees.specs.Tree.{trees_of, list_of, view_tree, view_trees
 use crate::binders::Over;
 use acsl_guards::Guard;
 use acsl_rules::{leaf, one, three, two};
-use acsl_trees::{Head, Range, Tree};
+use acsl_trees::{BinderPlace, Head, Range, Tree};
 use std::alloc::Global;
 use wp_base::{List, NoMemory};
 
@@ -164,21 +164,23 @@ fn high_end(alloc: Global, conjuncts: &[&Tree], guard: Guard) -> Result<Tree, No
 // A body under one binder.
 fn over_one(
     alloc: Global,
+    place: BinderPlace,
     for_all: bool,
     conjuncts: &[&Tree],
     over: Over,
     body: Tree,
 ) -> Result<Tree, NoMemory>
-    ensures { IfOk result (λ t. view_tree t ≡ spec.over_one for_all (spec.pointed conjuncts.now) over (view_tree body)) }
+    ensures { IfOk result (λ t. view_tree t ≡ spec.over_one place for_all (spec.pointed conjuncts.now) over (view_tree body)) }
 {
     match over {
-        Over::Kind(kind) => one(alloc, quantifier(for_all, Range::Kind(kind)), body),
+        Over::Kind(kind) => one(alloc, quantifier(for_all, Range::Kind(kind, place)), body),
         Over::Guarded(guard) => {
             let low = low_end(alloc, conjuncts, guard)?;
             let high = high_end(alloc, conjuncts, guard)?;
             let range = Range::Between {
                 low_out: guard.low_strict,
                 high_out: guard.high_strict,
+                place,
             };
             three(alloc, quantifier(for_all, range), low, high, body)
         }
@@ -189,19 +191,20 @@ fn over_one(
 #[tactic(auto, using(crate::proofs::Nesting::nest_laws))]
 fn over_all(
     alloc: Global,
+    place: BinderPlace,
     for_all: bool,
     conjuncts: &[&Tree],
     overs: &[Over],
     body: Tree,
 ) -> Result<Tree, NoMemory>
-    ensures { IfOk result (λ t. view_tree t ≡ spec.over_all for_all (spec.pointed conjuncts.now) overs.now (view_tree body)) }
+    ensures { IfOk result (λ t. view_tree t ≡ spec.over_all place for_all (spec.pointed conjuncts.now) overs.now (view_tree body)) }
 {
     let mut tree = body;
     let mut left = overs.len();
     while left > 0 {
         left -= 1;
         let over = &overs[left];
-        tree = over_one(alloc, for_all, conjuncts, *over, tree)?;
+        tree = over_one(alloc, place, for_all, conjuncts, *over, tree)?;
     }
     Ok(tree)
 }
@@ -265,29 +268,30 @@ fn under(alloc: Global, kept: Option<Tree>, body: Tree) -> Result<Tree, NoMemory
 
 fn every_under(
     alloc: Global,
+    place: BinderPlace,
     overs: &[Over],
     conjuncts: &[&Tree],
     body: &Tree,
 ) -> Result<Tree, NoMemory>
-    ensures { IfOk result (λ t. view_tree t ≡ spec.every_under overs.now (spec.pointed conjuncts.now) (view_tree body.now)) }
+    ensures { IfOk result (λ t. view_tree t ≡ spec.every_under place overs.now (spec.pointed conjuncts.now) (view_tree body.now)) }
 {
     let kept = kept(alloc, overs, conjuncts)?;
     let body = under(alloc, kept, body.copy(alloc)?)?;
-    over_all(alloc, true, conjuncts, overs, body)
+    over_all(alloc, place, true, conjuncts, overs, body)
 }
 
 #[tactic(auto, using(crate::proofs::Ends::head_is))]
-fn every(alloc: Global, overs: &[Over], body: Tree) -> Result<Tree, NoMemory>
-    ensures { IfOk result (λ t. view_tree t ≡ spec.every overs.now (view_tree body)) }
+fn every(alloc: Global, place: BinderPlace, overs: &[Over], body: Tree) -> Result<Tree, NoMemory>
+    ensures { IfOk result (λ t. view_tree t ≡ spec.every place overs.now (view_tree body)) }
 {
     if is_implication(body.head) {
         if let Some((premise, conclusion)) = sides(&body) {
             let mut found = Vec::new(alloc);
             conjuncts(premise, &mut found)?;
-            return every_under(alloc, overs, found.as_slice(), conclusion);
+            return every_under(alloc, place, overs, found.as_slice(), conclusion);
         }
     }
-    over_all(alloc, true, &[], overs, body)
+    over_all(alloc, place, true, &[], overs, body)
 }
 
 fn is_kind(over: Over) -> bool
@@ -303,8 +307,13 @@ fn are_kinds(overs: &[Over]) -> bool
 }
 
 // The body is looked at for the ends of ranges.
-fn some_in_ranges(alloc: Global, overs: &[Over], body: &Tree) -> Result<Tree, NoMemory>
-    ensures { IfOk result (λ t. view_tree t ≡ spec.some overs.now (view_tree body.now)) }
+fn some_in_ranges(
+    alloc: Global,
+    place: BinderPlace,
+    overs: &[Over],
+    body: &Tree,
+) -> Result<Tree, NoMemory>
+    ensures { IfOk result (λ t. view_tree t ≡ spec.some place overs.now (view_tree body.now)) }
 {
     let mut found = Vec::new(alloc);
     conjuncts(body, &mut found)?;
@@ -312,18 +321,18 @@ fn some_in_ranges(alloc: Global, overs: &[Over], body: &Tree) -> Result<Tree, No
         Some(kept) => kept,
         None => truth(alloc),
     };
-    over_all(alloc, false, found.as_slice(), overs, kept)
+    over_all(alloc, place, false, found.as_slice(), overs, kept)
 }
 
 // Where no range has ends, the body isn't looked at, and not copied.
 #[tactic(auto, using(crate::proofs::Endless::some_of_kinds))]
-fn some(alloc: Global, overs: &[Over], body: Tree) -> Result<Tree, NoMemory>
-    ensures { IfOk result (λ t. view_tree t ≡ spec.some overs.now (view_tree body)) }
+fn some(alloc: Global, place: BinderPlace, overs: &[Over], body: Tree) -> Result<Tree, NoMemory>
+    ensures { IfOk result (λ t. view_tree t ≡ spec.some place overs.now (view_tree body)) }
 {
     if !is_and(body.head) && are_kinds(overs) {
-        over_all(alloc, false, &[], overs, body)
+        over_all(alloc, place, false, &[], overs, body)
     } else {
-        some_in_ranges(alloc, overs, &body)
+        some_in_ranges(alloc, place, overs, &body)
     }
 }
 
@@ -331,15 +340,16 @@ fn some(alloc: Global, overs: &[Over], body: Tree) -> Result<Tree, NoMemory>
 #[tactic(auto, unfolding(crate::specs::Ranges::quantified))]
 pub(crate) fn quantified(
     alloc: Global,
+    place: BinderPlace,
     for_all: bool,
     overs: &[Over],
     body: Tree,
 ) -> Result<Tree, NoMemory>
-    ensures { IfOk result (λ t. view_tree t ≡ spec.quantified for_all overs.now (view_tree body)) }
+    ensures { IfOk result (λ t. view_tree t ≡ spec.quantified place for_all overs.now (view_tree body)) }
 {
     if for_all {
-        every(alloc, overs, body)
+        every(alloc, place, overs, body)
     } else {
-        some(alloc, overs, body)
+        some(alloc, place, overs, body)
     }
 }

@@ -6,6 +6,7 @@ use Rattle.c_syntax.specs.Term as t
 use Rattle.c_syntax.specs.Pred as p
 use Rattle.c_answers.specs.Answers.{Answer, after, fault, unknown, wrong}
 use Rattle.acsl_guards.specs.Guarding.{guards, guarding, conjuncts as spelled_conjuncts}
+use Rattle.acsl_trees.specs.declared.heads.BinderPlace.{BinderPlace}
 use Rattle.acsl_trees.specs.declared.heads.Label.{Label}
 use Rattle.acsl_trees.specs.Tree.{Tree, node}
 use Rattle.acsl_trees.specs.Operands.{Operand}
@@ -27,7 +28,7 @@ use Rattle.acsl_places.specs.Places.{Aim, aimed, all_aimed, region_of, region_tr
 use Rattle.acsl_preds.specs.declared.binders.Over.{Over}
 use Rattle.acsl_preds.specs.declared.binders.Over.TheVariants as over
 use Rattle.acsl_preds.specs.Binders.{inside, with_bound, one_binder, binders}
-use Rattle.acsl_preds.specs.Preds.{all_typed, onto as behind_those, chain_typed, let_value, let_tree, labelled, number, binders_typed, typed_pred}
+use Rattle.acsl_preds.specs.Preds.{all_typed, onto as behind_those, chain_typed, let_value, let_tree, labelled, number, binders_typed, place_at, typed_pred}
 use Rattle.acsl_preds.specs.Ranges.{is_and, conjuncts, conjuncts_in, kids_of, over_all, is_implication, sides_of, every_sides, head_of, quantified}
 use Rattle.acsl_well_typed.specs.Ranges.{BindsOne, EachBinds}
 use Rattle.acsl_same_meaning.proofs.Answers.{after_holds, after_any, holds_all, holds_any, if_holds, ended_holds, closed_holds, Of}
@@ -42,27 +43,27 @@ if_no : (b : Bool) (v w : Tree) → NoAnd v → NoAnd w → NoAnd (if b then v e
 if_no true v w f g = f
 if_no false v w f g = g
 
-over_no : (a : Bool) (cs : List Tree) (o : Over) (os : List Over) (v : Tree) → NoAnd (over_all a cs (o ∷ os) v)
-over_no true cs (over.Kind k) os v = refl
-over_no false cs (over.Kind k) os v = refl
-over_no true cs (over.Guarded g) os v = refl
-over_no false cs (over.Guarded g) os v = refl
+over_no : (place : BinderPlace) (a : Bool) (cs : List Tree) (o : Over) (os : List Over) (v : Tree) → NoAnd (over_all place a cs (o ∷ os) v)
+over_no place true cs (over.Kind k) os v = refl
+over_no place false cs (over.Kind k) os v = refl
+over_no place true cs (over.Guarded g) os v = refl
+over_no place false cs (over.Guarded g) os v = refl
 
-sides_no : (o : Over) (os : List Over) (body : Tree) (q : Option (Tree × Tree)) → NoAnd (every_sides (o ∷ os) body q)
-sides_no o os body (Some q) = over_no true (conjuncts q.0) o os _
-sides_no o os body None = over_no true [] o os body
+sides_no : (place : BinderPlace) (o : Over) (os : List Over) (body : Tree) (q : Option (Tree × Tree)) → NoAnd (every_sides place (o ∷ os) body q)
+sides_no place o os body (Some q) = over_no place true (conjuncts q.0) o os _
+sides_no place o os body None = over_no place true [] o os body
 
 abbrev HasOne : List Over → Type 0
 HasOne [] = ⊥
 HasOne (o ∷ os) = Unit {0}
 
-quantified_no : (a : Bool) (os : List Over) (v : Tree) → HasOne os → NoAnd (quantified a os v)
+quantified_no : (place : BinderPlace) (a : Bool) (os : List Over) (v : Tree) → HasOne os → NoAnd (quantified place a os v)
 unfolding quantified
-quantified_no a [] v has = absurd has
-quantified_no true (o ∷ os) v has =
-    if_no (is_implication (head_of v)) (every_sides (o ∷ os) v (sides_of (kids_of v))) (over_all true [] (o ∷ os) v) (sides_no o os v (sides_of (kids_of v)))
-    (over_no true [] o os v)
-quantified_no false (o ∷ os) v has = over_no false (conjuncts v) o os _
+quantified_no place a [] v has = absurd has
+quantified_no place true (o ∷ os) v has =
+    if_no (is_implication (head_of v)) (every_sides place (o ∷ os) v (sides_of (kids_of v))) (over_all place true [] (o ∷ os) v) (sides_no place o os v (sides_of (kids_of v)))
+    (over_no place true [] o os v)
+quantified_no place false (o ∷ os) v has = over_no place false (conjuncts v) o os _
 
 module _ (c : Around) where
   bound_one : (b : Bound) (a : Bool) (ds : List e.VarDecl) (body : p.Pred) → BindsOne ds → Holds (λ r. HasOne r.0) (binders c b ds (guards a ds body))
@@ -177,12 +178,12 @@ module _ (c : Around) where
 
   quantifier_no : (b : Bound) (r : Reading) (n : Count) (line : ℕ) (a : Bool) (ds : List e.VarDecl) (body : p.Pred) → BindsOne ds
       → Holds (Of NoAnd) (after (binders_typed c b (with_node line n).limit a ds body)
-      (λ o. after (typed_pred c o.1 r (with_node line n) body) (λ v. Ok (quantified a o.0 v.0, v.1))))
+      (λ o. after (typed_pred c o.1 r (with_node line n) body) (λ v. Ok (quantified (place_at line n) a o.0 v.0, v.1))))
   quantifier_no b r n line a ds body binds =
       after_holds (λ o. HasOne o.0) (Of NoAnd) (binders_typed c b (with_node line n).limit a ds body) _
       (ended_holds (λ o. HasOne o.0) (with_node line n).limit (with_node line n).limit (with_node line n).limit (binders c (inside b) ds (guards a ds body))
       (bound_one (inside b) a ds body binds))
-      (λ o has. after_any (Of NoAnd) (typed_pred c o.1 r (with_node line n) body) _ (λ v. quantified_no a o.0 v.0 has))
+      (λ o has. after_any (Of NoAnd) (typed_pred c o.1 r (with_node line n) body) _ (λ v. quantified_no (place_at line n) a o.0 v.0 has))
 
   pub conjuncts_are : (b : Bound) (r : Reading) (n : Count) (a : p.Pred) → EachBinds a → Holds (Whole b (spelled_conjuncts a)) (typed_pred c b r n a)
   conjuncts_are b r n (p.and_of line a d) binds =

@@ -2,6 +2,7 @@
 use Rattle.std.proofs.Common.{◌≡◌, ℕ, zero, suc, ◌+◌, Bool, true, false, if◌then◌else◌, List, [], ◌∷◌, ◌++◌, length, ◌==◌, Option, Some, None, slice_get, refl, subst}
 use Rattle.std.specs.List.{list_any}
 use Rattle.std.proofs.lemmas.Bool.{and_parts}
+use Rattle.acsl_trees.specs.declared.heads.BinderPlace.{BinderPlace}
 use Rattle.acsl_trees.specs.declared.heads.Head.TheVariants as head
 use Rattle.acsl_trees.specs.Tree.{Tree, node, Trees, stop, more, list_of}
 use Rattle.acsl_preds.specs.declared.binders.Over.{Over}
@@ -109,43 +110,43 @@ module _ (l : Bool) (s : Signatures) where
   AllEndsFit d cs [] = Unit {0}
   AllEndsFit d cs (o ∷ os) = EndsFit d cs o × AllEndsFit (suc d) cs os
 
-  over_one_fits : (a : Bool) (cs : List Tree) (o : Over) (d : ℕ) (t : Tree) → EndsFit d cs o → G (suc d) t → G d (over_one a cs o t)
-  over_one_fits true cs (over.Kind k) d t e f = only f
-  over_one_fits false cs (over.Kind k) d t e f = only f
-  over_one_fits true cs (over.Guarded g) d t e f = triple e.0 e.1 f
-  over_one_fits false cs (over.Guarded g) d t e f = triple e.0 e.1 f
+  over_one_fits : (place : BinderPlace) (a : Bool) (cs : List Tree) (o : Over) (d : ℕ) (t : Tree) → EndsFit d cs o → G (suc d) t → G d (over_one place a cs o t)
+  over_one_fits place true cs (over.Kind k) d t e f = only f
+  over_one_fits place false cs (over.Kind k) d t e f = only f
+  over_one_fits place true cs (over.Guarded g) d t e f = triple e.0 e.1 f
+  over_one_fits place false cs (over.Guarded g) d t e f = triple e.0 e.1 f
 
-  over_all_fit : (a : Bool) (cs : List Tree) (os : List Over) (d : ℕ) (t : Tree) → AllEndsFit d cs os → G (under_binders os d) t → G d (over_all a cs os t)
-  over_all_fit a cs [] d t e f = f
-  over_all_fit a cs (o ∷ os) d t e f = over_one_fits a cs o d (over_all a cs os t) e.0 (over_all_fit a cs os (suc d) t e.1 f)
+  over_all_fit : (place : BinderPlace) (a : Bool) (cs : List Tree) (os : List Over) (d : ℕ) (t : Tree) → AllEndsFit d cs os → G (under_binders os d) t → G d (over_all place a cs os t)
+  over_all_fit place a cs [] d t e f = f
+  over_all_fit place a cs (o ∷ os) d t e f = over_one_fits place a cs o d (over_all place a cs os t) e.0 (over_all_fit place a cs os (suc d) t e.1 f)
 
   -- ---- quantifiers
 
-  every_under_fits : (os : List Over) (d : ℕ) (cs : List Tree) (t : Tree) → AllEndsFit d cs os → AreGood (under_binders os d) cs → G (under_binders os d) t
-      → G d (every_under os cs t)
-  every_under_fits os d cs t e are f =
-      over_all_fit true cs os d (under (kept os 0 None cs) t) e
+  every_under_fits : (place : BinderPlace) (os : List Over) (d : ℕ) (cs : List Tree) (t : Tree) → AllEndsFit d cs os → AreGood (under_binders os d) cs → G (under_binders os d) t
+      → G d (every_under place os cs t)
+  every_under_fits place os d cs t e are f =
+      over_all_fit place true cs os d (under (kept os 0 None cs) t) e
       (under_is (under_binders os d) (kept os 0 None cs) t (kept_are (under_binders os d) os 0 None cs tt are) f)
 
-  sides_fit : (os : List Over) (d : ℕ) (body : Tree) (p : Option (Tree × Tree)) → AllEndsFit d (ranging_sides p) os → AreSides (under_binders os d) p
+  sides_fit : (place : BinderPlace) (os : List Over) (d : ℕ) (body : Tree) (p : Option (Tree × Tree)) → AllEndsFit d (ranging_sides p) os → AreSides (under_binders os d) p
       → G (under_binders os d) body
-      → G d (every_sides os body p)
-  sides_fit os d body (Some p) e are f = every_under_fits os d (conjuncts p.0) p.1 e (conjuncts_are (under_binders os d) p.0 are.0) are.1
-  sides_fit os d body None e are f = over_all_fit true [] os d body e f
+      → G d (every_sides place os body p)
+  sides_fit place os d body (Some p) e are f = every_under_fits place os d (conjuncts p.0) p.1 e (conjuncts_are (under_binders os d) p.0 are.0) are.1
+  sides_fit place os d body None e are f = over_all_fit place true [] os d body e f
 
-  every_fits : (os : List Over) (d : ℕ) (body : Tree) → AllEndsFit d (ranging true body) os → G (under_binders os d) body → G d (every os body)
-  every_fits os d (node head.Implies ks) e f =
-      sides_fit os d (node head.Implies ks) (sides_of (list_of ks)) e (sides_are (under_binders os d) (list_of ks) (kids_are (under_binders os d) ks f)) f
-  every_fits os d (node h ks) e f = over_all_fit true [] os d (node h ks) e f
+  every_fits : (place : BinderPlace) (os : List Over) (d : ℕ) (body : Tree) → AllEndsFit d (ranging true body) os → G (under_binders os d) body → G d (every place os body)
+  every_fits place os d (node head.Implies ks) e f =
+      sides_fit place os d (node head.Implies ks) (sides_of (list_of ks)) e (sides_are (under_binders os d) (list_of ks) (kids_are (under_binders os d) ks f)) f
+  every_fits place os d (node h ks) e f = over_all_fit place true [] os d (node h ks) e f
 
-  some_fits : (os : List Over) (d : ℕ) (body : Tree) → AllEndsFit d (conjuncts body) os → G (under_binders os d) body → G d (some os body)
-  some_fits os d body e f =
-      over_all_fit false (conjuncts body) os d (or_truth (kept os 0 None (conjuncts body))) e
+  some_fits : (place : BinderPlace) (os : List Over) (d : ℕ) (body : Tree) → AllEndsFit d (conjuncts body) os → G (under_binders os d) body → G d (some place os body)
+  some_fits place os d body e f =
+      over_all_fit place false (conjuncts body) os d (or_truth (kept os 0 None (conjuncts body))) e
       (or_truth_is (under_binders os d) (kept os 0 None (conjuncts body))
       (kept_are (under_binders os d) os 0 None (conjuncts body) tt (conjuncts_are (under_binders os d) body f)))
 
-  pub quantified_fits : (a : Bool) (os : List Over) (d : ℕ) (body : Tree) → AllEndsFit d (ranging a body) os → G (under_binders os d) body
-      → G d (quantified a os body)
+  pub quantified_fits : (place : BinderPlace) (a : Bool) (os : List Over) (d : ℕ) (body : Tree) → AllEndsFit d (ranging a body) os → G (under_binders os d) body
+      → G d (quantified place a os body)
   unfolding quantified
-  quantified_fits true os d body e f = every_fits os d body e f
-  quantified_fits false os d body e f = some_fits os d body e f
+  quantified_fits place true os d body e f = every_fits place os d body e f
+  quantified_fits place false os d body e f = some_fits place os d body e f

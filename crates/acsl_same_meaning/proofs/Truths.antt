@@ -30,7 +30,7 @@ use Rattle.acsl_terms.specs.Calls.{called_at}
 use Rattle.acsl_terms.specs.Terms.{typed, typed_for, typed_all, predicate_call}
 use Rattle.acsl_preds.specs.declared.binders.Over.{Over}
 use Rattle.acsl_preds.specs.Binders.{inside, with_bound, is_new, over_by, binder_over, binders}
-use Rattle.acsl_preds.specs.Preds.{all_typed, onto, chain_typed, let_by, let_tree, labelled, number, binders_typed, typed_pred}
+use Rattle.acsl_preds.specs.Preds.{all_typed, onto, chain_typed, let_by, let_tree, labelled, number, binders_typed, place_at, typed_pred}
 use Rattle.acsl_truth.specs.Laws.{Signatures}
 use Rattle.acsl_same_meaning.specs.Trees.{Signed, MayLabel}
 use Rattle.acsl_well_typed.specs.Ranges.{BindsOne, EachBinds, AreNumbered}
@@ -203,7 +203,7 @@ module _ (l : Bool) (s : Signatures) (c : Around) (sig : Signed s c.definitions.
           (binders_are (inside b) (length b.types) ds (guards true ds a) refl (inside_numbered b are)))
           (λ o fo is. after_with (Of (G (length o.1.types))) (Of (G (length b.types))) (typed_pred c o.1 r (with_node line n) a) _
           (pred_fits o.1 r (with_node line n) a fo.1 each.1)
-          (λ u fu made. quantified_fits l s true o.0 (length b.types) u.0
+          (λ u fu made. quantified_fits l s (place_at line n) true o.0 (length b.types) u.0
           (ends b r (with_node line n) true ds a o u are each.0 each.1 (ended_is _ _ _ _ o is) made) (subst (λ d. G d u.0) fo.0 fu)))
       pred_fits b r n (p.for_some line ds a) are each =
           after_with (AreBound (length b.types)) (Of (G (length b.types))) (binders_typed c b (with_node line n).limit false ds a) _
@@ -212,5 +212,5 @@ module _ (l : Bool) (s : Signatures) (c : Around) (sig : Signed s c.definitions.
           (binders_are (inside b) (length b.types) ds (guards false ds a) refl (inside_numbered b are)))
           (λ o fo is. after_with (Of (G (length o.1.types))) (Of (G (length b.types))) (typed_pred c o.1 r (with_node line n) a) _
           (pred_fits o.1 r (with_node line n) a fo.1 each.1)
-          (λ u fu made. quantified_fits l s false o.0 (length b.types) u.0
+          (λ u fu made. quantified_fits l s (place_at line n) false o.0 (length b.types) u.0
           (ends b r (with_node line n) false ds a o u are each.0 each.1 (ended_is _ _ _ _ o is) made) (subst (λ d. G d u.0) fo.0 fu)))

@@ -1,6 +1,6 @@
 // What nodes of typed annotations do with the values of their kids (ACSL 2.2). None of these types has a tree in it.
 use typed_prog::{Arithmetic, Comparison, Variable};
-use wp_base::Kind;
+use wp_base::{Kind, Line};
 
 /// The state in which a term is read (ACSL 2.4.3). `Old` is `Pre`.
 #[derive(Clone, Copy, PartialEq, Eq)]
@@ -19,13 +19,25 @@ pub enum Content {
     Struct(u32),
 }
 
-/// Over which numbers a binder goes (ACSL 2.2.2).
+/// Where the quantifier of a binder stands: its line, and how many nodes of its annotation were counted up to it. It says nothing of the
+/// truth; it tells apart quantifiers that are spelled alike.
+#[derive(Clone, Copy)]
+pub struct BinderPlace {
+    pub line: Line,
+    pub node: u32,
+}
+
+/// Over which numbers a binder goes (ACSL 2.2.2), and where its quantifier stands.
 #[derive(Clone, Copy)]
 pub enum Range {
     /// From the value of the first kid to that of the second one, each itself left out or not.
-    Between { low_out: bool, high_out: bool },
+    Between {
+        low_out: bool,
+        high_out: bool,
+        place: BinderPlace,
+    },
     /// All that a kind holds.
-    Kind(Kind),
+    Kind(Kind, BinderPlace),
 }
 
 /// What a node is. Its kids' values are integers, pointers, addresses of objects, or sets of addresses; a predicate has the value 1 where

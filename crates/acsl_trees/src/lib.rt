@@ -5,6 +5,6 @@ mod heads;
 mod operands;
 mod tree;
 
-pub use heads::{Content, Head, Label, Range};
+pub use heads::{BinderPlace, Content, Head, Label, Range};
 pub use operands::{Operand, Sort, TermType};
 pub use tree::Tree;

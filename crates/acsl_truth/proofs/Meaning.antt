@@ -6,6 +6,7 @@ use Rattle.c_kinds.specs.Models.{low, high}
 use Rattle.acsl_trees.specs.declared.heads.Head.{Head}
 use Rattle.acsl_trees.specs.declared.heads.Head.TheVariants as hd
 use Rattle.acsl_trees.specs.declared.heads.Label.{Label}
+use Rattle.acsl_trees.specs.declared.heads.BinderPlace.{BinderPlace}
 use Rattle.acsl_trees.specs.declared.heads.Range.{Range}
 use Rattle.acsl_trees.specs.declared.heads.Range.TheVariants as range
 use Rattle.acsl_trees.specs.Tree.{Tree, Trees, node, stop, more, trees_of, one, two, three}
@@ -162,23 +163,23 @@ module _ (s : Signatures) (m m' : Calls) where
     of_kind_meant over k t mt c g = let inside = inside_meant t mt c (are_kids c.u 1 1 _ g) in λ i. of_kind over c.w k (λ v. inside v i)
 
     abbrev MeantBetween : (Range → Head) → Type 0
-    MeantBetween q = (low_out high_out : Bool) (a z t : Tree) → Meant a → Meant z → Meant t → Meant (three (q (range.Between low_out high_out)) a z t)
+    MeantBetween q = (low_out high_out : Bool) (place : BinderPlace) (a z t : Tree) → Meant a → Meant z → Meant t → Meant (three (q (range.Between low_out high_out place)) a z t)
 
     every_between_meant : MeantBetween hd.Every
-    every_between_meant low_out high_out a z t ma mz mt =
-        binder_meant (three (hd.Every (range.Between low_out high_out)) a z t) (λ c g. may_bind c.u 3 3 _ g)
+    every_between_meant low_out high_out place a z t ma mz mt =
+        binder_meant (three (hd.Every (range.Between low_out high_out place)) a z t) (λ c g. may_bind c.u 3 3 _ g)
         (between_meant every_between low_out high_out a z t ma mz mt)
 
     some_between_meant : MeantBetween hd.Some
-    some_between_meant low_out high_out a z t ma mz mt =
-        binder_meant (three (hd.Some (range.Between low_out high_out)) a z t) (λ c g. may_bind c.u 3 3 _ g)
+    some_between_meant low_out high_out place a z t ma mz mt =
+        binder_meant (three (hd.Some (range.Between low_out high_out place)) a z t) (λ c g. may_bind c.u 3 3 _ g)
         (between_meant some_between low_out high_out a z t ma mz mt)
 
-    every_of_kind_meant : (k : Kind) (t : Tree) → Meant t → Meant (one (hd.Every (range.Kind k)) t)
-    every_of_kind_meant k t mt = binder_meant (one (hd.Every (range.Kind k)) t) (λ c g. may_bind c.u 1 1 _ g) (of_kind_meant every_between k t mt)
+    every_of_kind_meant : (k : Kind) (place : BinderPlace) (t : Tree) → Meant t → Meant (one (hd.Every (range.Kind k place)) t)
+    every_of_kind_meant k place t mt = binder_meant (one (hd.Every (range.Kind k place)) t) (λ c g. may_bind c.u 1 1 _ g) (of_kind_meant every_between k t mt)
 
-    some_of_kind_meant : (k : Kind) (t : Tree) → Meant t → Meant (one (hd.Some (range.Kind k)) t)
-    some_of_kind_meant k t mt = binder_meant (one (hd.Some (range.Kind k)) t) (λ c g. may_bind c.u 1 1 _ g) (of_kind_meant some_between k t mt)
+    some_of_kind_meant : (k : Kind) (place : BinderPlace) (t : Tree) → Meant t → Meant (one (hd.Some (range.Kind k place)) t)
+    some_of_kind_meant k place t mt = binder_meant (one (hd.Some (range.Kind k place)) t) (λ c g. may_bind c.u 1 1 _ g) (of_kind_meant some_between k t mt)
 
     mutual
       pub same_value : (t : Tree) → Meant t
@@ -190,26 +191,26 @@ module _ (s : Signatures) (m m' : Calls) where
       same_value (node hd.Let stop) c g = absurd (few_kids c.u 0 2 _ (omega arith) g)
       same_value (node hd.Let (more a stop)) c g = absurd (few_kids c.u 1 2 _ (omega arith) g)
       same_value (node hd.Let (more a (more t (more x ks)))) c g = absurd (many_kids c.u (count_of (more a (more t (more x ks)))) 2 _ (omega arith) g)
-      same_value (node (hd.Every (range.Between p q)) (more a (more z (more t stop)))) c g =
-          every_between_meant p q a z t (same_value a) (same_value z) (same_value t) c g
-      same_value (node (hd.Every (range.Between p q)) stop) c g = absurd (few_kids c.u 0 3 _ (omega arith) g)
-      same_value (node (hd.Every (range.Between p q)) (more a stop)) c g = absurd (few_kids c.u 1 3 _ (omega arith) g)
-      same_value (node (hd.Every (range.Between p q)) (more a (more z stop))) c g = absurd (few_kids c.u 2 3 _ (omega arith) g)
-      same_value (node (hd.Every (range.Between p q)) (more a (more z (more t (more x ks))))) c g =
+      same_value (node (hd.Every (range.Between p q place)) (more a (more z (more t stop)))) c g =
+          every_between_meant p q place a z t (same_value a) (same_value z) (same_value t) c g
+      same_value (node (hd.Every (range.Between p q place)) stop) c g = absurd (few_kids c.u 0 3 _ (omega arith) g)
+      same_value (node (hd.Every (range.Between p q place)) (more a stop)) c g = absurd (few_kids c.u 1 3 _ (omega arith) g)
+      same_value (node (hd.Every (range.Between p q place)) (more a (more z stop))) c g = absurd (few_kids c.u 2 3 _ (omega arith) g)
+      same_value (node (hd.Every (range.Between p q place)) (more a (more z (more t (more x ks))))) c g =
           absurd (many_kids c.u (count_of (more a (more z (more t (more x ks))))) 3 _ (omega arith) g)
-      same_value (node (hd.Every (range.Kind k)) (more t stop)) c g = every_of_kind_meant k t (same_value t) c g
-      same_value (node (hd.Every (range.Kind k)) stop) c g = absurd (few_kids c.u 0 1 _ (omega arith) g)
-      same_value (node (hd.Every (range.Kind k)) (more t (more x ks))) c g = absurd (many_kids c.u (count_of (more t (more x ks))) 1 _ (omega arith) g)
-      same_value (node (hd.Some (range.Between p q)) (more a (more z (more t stop)))) c g =
-          some_between_meant p q a z t (same_value a) (same_value z) (same_value t) c g
-      same_value (node (hd.Some (range.Between p q)) stop) c g = absurd (few_kids c.u 0 3 _ (omega arith) g)
-      same_value (node (hd.Some (range.Between p q)) (more a stop)) c g = absurd (few_kids c.u 1 3 _ (omega arith) g)
-      same_value (node (hd.Some (range.Between p q)) (more a (more z stop))) c g = absurd (few_kids c.u 2 3 _ (omega arith) g)
-      same_value (node (hd.Some (range.Between p q)) (more a (more z (more t (more x ks))))) c g =
+      same_value (node (hd.Every (range.Kind k place)) (more t stop)) c g = every_of_kind_meant k place t (same_value t) c g
+      same_value (node (hd.Every (range.Kind k place)) stop) c g = absurd (few_kids c.u 0 1 _ (omega arith) g)
+      same_value (node (hd.Every (range.Kind k place)) (more t (more x ks))) c g = absurd (many_kids c.u (count_of (more t (more x ks))) 1 _ (omega arith) g)
+      same_value (node (hd.Some (range.Between p q place)) (more a (more z (more t stop)))) c g =
+          some_between_meant p q place a z t (same_value a) (same_value z) (same_value t) c g
+      same_value (node (hd.Some (range.Between p q place)) stop) c g = absurd (few_kids c.u 0 3 _ (omega arith) g)
+      same_value (node (hd.Some (range.Between p q place)) (more a stop)) c g = absurd (few_kids c.u 1 3 _ (omega arith) g)
+      same_value (node (hd.Some (range.Between p q place)) (more a (more z stop))) c g = absurd (few_kids c.u 2 3 _ (omega arith) g)
+      same_value (node (hd.Some (range.Between p q place)) (more a (more z (more t (more x ks))))) c g =
           absurd (many_kids c.u (count_of (more a (more z (more t (more x ks))))) 3 _ (omega arith) g)
-      same_value (node (hd.Some (range.Kind k)) (more t stop)) c g = some_of_kind_meant k t (same_value t) c g
-      same_value (node (hd.Some (range.Kind k)) stop) c g = absurd (few_kids c.u 0 1 _ (omega arith) g)
-      same_value (node (hd.Some (range.Kind k)) (more t (more x ks))) c g = absurd (many_kids c.u (count_of (more t (more x ks))) 1 _ (omega arith) g)
+      same_value (node (hd.Some (range.Kind k place)) (more t stop)) c g = some_of_kind_meant k place t (same_value t) c g
+      same_value (node (hd.Some (range.Kind k place)) stop) c g = absurd (few_kids c.u 0 1 _ (omega arith) g)
+      same_value (node (hd.Some (range.Kind k place)) (more t (more x ks))) c g = absurd (many_kids c.u (count_of (more t (more x ks))) 1 _ (omega arith) g)
       same_value (node head ks) c g = ap (applied c.w head) (same_values ks c g)
 
       same_values : (ts : Trees) → AllMeant ts

@@ -25,8 +25,8 @@ count_of (more t ts) = suc (count_of ts)
 
 -- a binder has its ends before the last kid
 abbrev pub ends : Range → ℕ
-ends (range.Between low_out high_out) = 2
-ends (range.Kind k) = 0
+ends (range.Between low_out high_out place) = 2
+ends (range.Kind k place) = 0
 
 abbrev pub is_link : Head → Bool
 is_link (h.Link c) = true

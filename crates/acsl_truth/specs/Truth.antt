@@ -175,12 +175,12 @@ short_of false z = z
 
 -- the least and the greatest number of a range whose ends have these values
 abbrev pub least : Machdep → Range → List Value → ℤ
-least m (range.Between low_out high_out) vs = beyond low_out (number_of (first vs))
-least m (range.Kind k) vs = low m k
+least m (range.Between low_out high_out place) vs = beyond low_out (number_of (first vs))
+least m (range.Kind k place) vs = low m k
 
 abbrev pub greatest : Machdep → Range → List Value → ℤ
-greatest m (range.Between low_out high_out) vs = short_of high_out (number_of (second vs))
-greatest m (range.Kind k) vs = high m k
+greatest m (range.Between low_out high_out place) vs = short_of high_out (number_of (second vs))
+greatest m (range.Kind k place) vs = high m k
 
 abbrev pub last_of : List Value → Value
 last_of vs = value_at vs (length vs - 1)

@@ -6,6 +6,7 @@ use Rattle.c_syntax.specs.Expr as e
 use Rattle.c_syntax.specs.Pred as p
 use Rattle.c_answers.specs.Answers.{after}
 use Rattle.acsl_guards.specs.Guarding.{guards, conjuncts as conjuncts_spelled, guarding}
+use Rattle.acsl_trees.specs.declared.heads.BinderPlace.{BinderPlace}
 use Rattle.acsl_trees.specs.declared.heads.Head.{Head}
 use Rattle.acsl_trees.specs.declared.heads.Head.TheVariants as head
 use Rattle.acsl_trees.specs.declared.heads.Label.{Label}
@@ -27,7 +28,7 @@ use Rattle.acsl_preds.specs.declared.binders.Over.{Over}
 use Rattle.acsl_preds.specs.declared.binders.Over.TheVariants as over
 use Rattle.acsl_preds.specs.Binders.{inside, with_bound, one_binder, binders}
 use Rattle.acsl_preds.specs.Ranges.{is_and, conjuncts, conjuncts_in, over_one, over_all, is_implication, sides_of, every_sides, head_of, quantified, kids_of}
-use Rattle.acsl_preds.specs.Preds.{all_typed, onto as behind_those, chain_typed, let_value, let_tree, labelled, number, binders_typed, typed_pred}
+use Rattle.acsl_preds.specs.Preds.{all_typed, onto as behind_those, chain_typed, let_value, let_tree, labelled, number, binders_typed, place_at, typed_pred}
 use Rattle.acsl_well_typed.specs.WellTyped.{Names, types_give}
 use Rattle.acsl_well_typed.specs.Terms.{HaveTypes}
 use Rattle.acsl_well_typed.specs.Ranges.{BindsOne, EachBinds}
@@ -72,32 +73,32 @@ let_not : (line : ℕ) (has : Bool) (v u : Tree) → Holds NotAnd (let_tree line
 let_not line true v u = refl
 let_not line false v u = tt
 
-over_not : (a : Bool) (cs : List Tree) (o : Over) (u : Tree) → NotAnd (over_one a cs o u)
-over_not true cs (over.Kind q) u = refl
-over_not false cs (over.Kind q) u = refl
-over_not true cs (over.Guarded z) u = refl
-over_not false cs (over.Guarded z) u = refl
+over_not : (place : BinderPlace) (a : Bool) (cs : List Tree) (o : Over) (u : Tree) → NotAnd (over_one place a cs o u)
+over_not place true cs (over.Kind q) u = refl
+over_not place false cs (over.Kind q) u = refl
+over_not place true cs (over.Guarded z) u = refl
+over_not place false cs (over.Guarded z) u = refl
 
 abbrev pub HasOne : List Over → Type 0
 HasOne [] = ⊥
 HasOne (o ∷ os) = Unit {0}
 
-all_not : (a : Bool) (cs : List Tree) (os : List Over) (u : Tree) → HasOne os → NotAnd (over_all a cs os u)
-all_not a cs [] u has = absurd has
-all_not a cs (o ∷ os) u has = over_not a cs o (over_all a cs os u)
+all_not : (place : BinderPlace) (a : Bool) (cs : List Tree) (os : List Over) (u : Tree) → HasOne os → NotAnd (over_all place a cs os u)
+all_not place a cs [] u has = absurd has
+all_not place a cs (o ∷ os) u has = over_not place a cs o (over_all place a cs os u)
 
-sides_not : (os : List Over) (u : Tree) (q : Option (Tree × Tree)) → HasOne os → NotAnd (every_sides os u q)
-sides_not os u (Some q) has = all_not true (conjuncts q.0) os _ has
-sides_not os u None has = all_not true [] os u has
+sides_not : (place : BinderPlace) (os : List Over) (u : Tree) (q : Option (Tree × Tree)) → HasOne os → NotAnd (every_sides place os u q)
+sides_not place os u (Some q) has = all_not place true (conjuncts q.0) os _ has
+sides_not place os u None has = all_not place true [] os u has
 
-every_not : (os : List Over) (u : Tree) (b : Bool) → HasOne os → NotAnd (if b then every_sides os u (sides_of (kids_of u)) else over_all true [] os u)
-every_not os u true has = sides_not os u (sides_of (kids_of u)) has
-every_not os u false has = all_not true [] os u has
+every_not : (place : BinderPlace) (os : List Over) (u : Tree) (b : Bool) → HasOne os → NotAnd (if b then every_sides place os u (sides_of (kids_of u)) else over_all place true [] os u)
+every_not place os u true has = sides_not place os u (sides_of (kids_of u)) has
+every_not place os u false has = all_not place true [] os u has
 
-quantified_not : (a : Bool) (os : List Over) (u : Tree) → HasOne os → NotAnd (quantified a os u)
+quantified_not : (place : BinderPlace) (a : Bool) (os : List Over) (u : Tree) → HasOne os → NotAnd (quantified place a os u)
 unfolding quantified
-quantified_not true os u has = every_not os u (is_implication (head_of u)) has
-quantified_not false os u has = all_not false (conjuncts u) os _ has
+quantified_not place true os u has = every_not place os u (is_implication (head_of u)) has
+quantified_not place false os u has = all_not place false (conjuncts u) os _ has
 
 -- ---- conjuncts
 
@@ -176,10 +177,10 @@ module _ (z : Bool) (c : Around) (have : HaveTypes c.definitions.items) (b : Bou
 
   quantifier_alone : (m : Count) (line : ℕ) (q : Bool) (ds : List e.VarDecl) (a : p.Pred) → BindsOne ds
       → Holds (Of NotAnd) (after (binders_typed c b (with_node line m).limit q ds a)
-      (λ o. after (typed_pred c o.1 r (with_node line m) a) (λ u. Ok (quantified q o.0 u.0, u.1))))
+      (λ o. after (typed_pred c o.1 r (with_node line m) a) (λ u. Ok (quantified (place_at line m) q o.0 u.0, u.1))))
   quantifier_alone m line q ds a binds =
       after_holds (λ o. HasOne o.0) (Of NotAnd) (binders_typed c b (with_node line m).limit q ds a) _ (has_one (with_node line m).limit q ds a binds)
-      (λ o has. after_any (Of NotAnd) (typed_pred c o.1 r (with_node line m) a) _ (λ u. quantified_not q o.0 u.0 has))
+      (λ o has. after_any (Of NotAnd) (typed_pred c o.1 r (with_node line m) a) _ (λ u. quantified_not (place_at line m) q o.0 u.0 has))
 
   call_alone : (m : Count) (line : ℕ) (f : List ℕ) (args : List t.Term) → Holds (Of NotAnd) (typed_pred c b r m (p.call line f args))
   call_alone m line f args =

@@ -17,7 +17,7 @@ use Rattle.acsl_names.specs.Counting.{with_node}
 use Rattle.acsl_terms.specs.Terms.{typed}
 use Rattle.acsl_preds.specs.declared.binders.Over.{Over}
 use Rattle.acsl_preds.specs.Binders.{inside, with_bound, binders}
-use Rattle.acsl_preds.specs.Preds.{labelled, number, binders_typed, typed_pred, quantifier_typed}
+use Rattle.acsl_preds.specs.Preds.{labelled, number, binders_typed, place_at, typed_pred, quantifier_typed}
 use Rattle.acsl_well_typed.specs.WellTyped.{an_integer, Names, types_give}
 use Rattle.acsl_well_typed.specs.Terms.{HaveTypes, known_at}
 use Rattle.acsl_well_typed.specs.Preds.{PredsAreWellTyped}
@@ -52,7 +52,7 @@ module _ (z : Bool) (c : Around) (have : HaveTypes c.definitions.items) where
             (asked h).0,
         (asked h).1,
       )))
-      (λ u made fu. quantified_gives (known_at z c) q o.0 ns u.0
+      (λ u made fu. quantified_gives (known_at z c) (place_at line n) q o.0 ns u.0
       (ends_are z c have r q b ns ds a o (with_node line n) u asked scope
       (ended_is (with_node line n).limit (with_node line n).limit (with_node line n).limit _ o is) made fo fu) fu))
     where

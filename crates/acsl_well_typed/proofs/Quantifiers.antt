@@ -2,6 +2,7 @@
 use Rattle.std.proofs.Common.{◌≡◌, ℕ, zero, suc, ◌+◌, Bool, true, false, if◌then◌else◌, List, [], ◌∷◌, ◌++◌, length, ◌==◌, Option, Some, None, slice_get, refl, ap, sym, ◌∙◌, subst}
 use Rattle.std.specs.Option.{option_map, option_and_then}
 use Rattle.std.specs.List.{list_any}
+use Rattle.acsl_trees.specs.declared.heads.BinderPlace.{BinderPlace}
 use Rattle.acsl_trees.specs.declared.heads.Head.{Head}
 use Rattle.acsl_trees.specs.declared.heads.Head.TheVariants as head
 use Rattle.acsl_trees.specs.declared.heads.Range.TheVariants as range
@@ -277,59 +278,59 @@ module _ (k : Known) where
       ∙ ap (λ o. option_and_then (gives k ns h) (option_map (λ ws. an_integer ∷ ws)
       (option_map (λ ws. an_integer ∷ ws) (option_and_then (λ w. Some (w ∷ [])) o)))) f
 
-  every_one : (a : Bool) (cs : List Tree) (o : Over) (ns : Names) (t : Tree) → EndsGive ns cs o → Gives k (ns ++ an_integer ∷ []) an_integer t
-      → Gives k ns an_integer (over_one a cs o t)
-  every_one true cs (over.Kind q) ns t d e = ap (λ o. option_and_then (gives k ns (head.Every (range.Kind q))) (option_and_then (λ w. Some (w ∷ [])) o)) e
-  every_one false cs (over.Kind q) ns t d e = ap (λ o. option_and_then (gives k ns (head.Some (range.Kind q))) (option_and_then (λ w. Some (w ∷ [])) o)) e
-  every_one true cs (over.Guarded z) ns t d e = range_gives (head.Every (range.Between z.low_strict z.high_strict)) ns (low_end cs z)
+  every_one : (place : BinderPlace) (a : Bool) (cs : List Tree) (o : Over) (ns : Names) (t : Tree) → EndsGive ns cs o → Gives k (ns ++ an_integer ∷ []) an_integer t
+      → Gives k ns an_integer (over_one place a cs o t)
+  every_one place true cs (over.Kind q) ns t d e = ap (λ o. option_and_then (gives k ns (head.Every (range.Kind q place))) (option_and_then (λ w. Some (w ∷ [])) o)) e
+  every_one place false cs (over.Kind q) ns t d e = ap (λ o. option_and_then (gives k ns (head.Some (range.Kind q place))) (option_and_then (λ w. Some (w ∷ [])) o)) e
+  every_one place true cs (over.Guarded z) ns t d e = range_gives (head.Every (range.Between z.low_strict z.high_strict place)) ns (low_end cs z)
       (high_end cs z) t refl d.0 d.1 e
-  every_one false cs (over.Guarded z) ns t d e = range_gives (head.Some (range.Between z.low_strict z.high_strict)) ns (low_end cs z)
+  every_one place false cs (over.Guarded z) ns t d e = range_gives (head.Some (range.Between z.low_strict z.high_strict place)) ns (low_end cs z)
       (high_end cs z) t refl d.0 d.1 e
 
-  every_over : (a : Bool) (cs : List Tree) (os : List Over) (ns : Names) (t : Tree) → AllEndsGive ns cs os → Gives k (under_binders os ns) an_integer t
-      → Gives k ns an_integer (over_all a cs os t)
-  every_over a cs [] ns t d e = e
-  every_over a cs (o ∷ os) ns t d e = every_one a cs o ns (over_all a cs os t) d.0 (every_over a cs os (ns ++ an_integer ∷ []) t d.1 e)
+  every_over : (place : BinderPlace) (a : Bool) (cs : List Tree) (os : List Over) (ns : Names) (t : Tree) → AllEndsGive ns cs os → Gives k (under_binders os ns) an_integer t
+      → Gives k ns an_integer (over_all place a cs os t)
+  every_over place a cs [] ns t d e = e
+  every_over place a cs (o ∷ os) ns t d e = every_one place a cs o ns (over_all place a cs os t) d.0 (every_over place a cs os (ns ++ an_integer ∷ []) t d.1 e)
 
   -- ---- quantifiers
 
-  under_gives : (os : List Over) (ns : Names) (cs : List Tree) (t : Tree) → AllEndsGive ns cs os → AreTruths k (under_binders os ns) cs
+  under_gives : (place : BinderPlace) (os : List Over) (ns : Names) (cs : List Tree) (t : Tree) → AllEndsGive ns cs os → AreTruths k (under_binders os ns) cs
       → Gives k (under_binders os ns) an_integer t
-      → Gives k ns an_integer (every_under os cs t)
-  under_gives os ns cs t d are e = every_over true cs os ns (under (kept os 0 None cs) t) d
+      → Gives k ns an_integer (every_under place os cs t)
+  under_gives place os ns cs t d are e = every_over place true cs os ns (under (kept os 0 None cs) t) d
       (under_is k (under_binders os ns) (kept os 0 None cs) t (kept_are k (under_binders os ns) os 0 None cs tt are) e)
 
-  sides_give : (os : List Over) (ns : Names) (body : Tree) (p : Option (Tree × Tree)) → AllEndsGive ns (ranging_sides p) os → AreSides k (under_binders os ns) p
-      → Gives k (under_binders os ns) an_integer body → Gives k ns an_integer (every_sides os body p)
-  sides_give os ns body (Some p) d are e = under_gives os ns (conjuncts p.0) p.1 d (conjuncts_are k (under_binders os ns) p.0 are.0) are.1
-  sides_give os ns body None d are e = every_over true [] os ns body d e
+  sides_give : (place : BinderPlace) (os : List Over) (ns : Names) (body : Tree) (p : Option (Tree × Tree)) → AllEndsGive ns (ranging_sides p) os → AreSides k (under_binders os ns) p
+      → Gives k (under_binders os ns) an_integer body → Gives k ns an_integer (every_sides place os body p)
+  sides_give place os ns body (Some p) d are e = under_gives place os ns (conjuncts p.0) p.1 d (conjuncts_are k (under_binders os ns) p.0 are.0) are.1
+  sides_give place os ns body None d are e = every_over place true [] os ns body d e
 
-  every_by : (os : List Over) (ns : Names) (h : Head) (kids : Trees) (b : Bool) → is_implication h ≡ b
+  every_by : (place : BinderPlace) (os : List Over) (ns : Names) (h : Head) (kids : Trees) (b : Bool) → is_implication h ≡ b
       → AllEndsGive ns (if b then ranging_sides (sides_of (list_of kids)) else []) os
       → Gives k (under_binders os ns) an_integer (node h kids)
-      → Gives k ns an_integer (if b then every_sides os (node h kids) (sides_of (list_of kids)) else over_all true [] os (node h kids))
-  every_by os ns h kids true is d e =
-      sides_give os ns (node h kids) (sides_of (list_of kids)) d (sides_by k (under_binders os ns) (list_of kids)
+      → Gives k ns an_integer (if b then every_sides place os (node h kids) (sides_of (list_of kids)) else over_all place true [] os (node h kids))
+  every_by place os ns h kids true is d e =
+      sides_give place os ns (node h kids) (sides_of (list_of kids)) d (sides_by k (under_binders os ns) (list_of kids)
       (implication_sides k (under_binders os ns) h kids (implication_is h is) e)) e
-  every_by os ns h kids false is d e = every_over true [] os ns (node h kids) d e
+  every_by place os ns h kids false is d e = every_over place true [] os ns (node h kids) d e
 
-  every_gives : (os : List Over) (ns : Names) (body : Tree) → AllEndsGive ns (ranging true body) os → Gives k (under_binders os ns) an_integer body
-      → Gives k ns an_integer (every os body)
-  every_gives os ns (node h kids) d e = every_by os ns h kids _ refl d e
+  every_gives : (place : BinderPlace) (os : List Over) (ns : Names) (body : Tree) → AllEndsGive ns (ranging true body) os → Gives k (under_binders os ns) an_integer body
+      → Gives k ns an_integer (every place os body)
+  every_gives place os ns (node h kids) d e = every_by place os ns h kids _ refl d e
 
-  some_gives : (os : List Over) (ns : Names) (body : Tree) → AllEndsGive ns (conjuncts body) os → Gives k (under_binders os ns) an_integer body
-      → Gives k ns an_integer (some os body)
-  some_gives os ns body d e =
-      every_over false (conjuncts body) os ns (or_truth (kept os 0 None (conjuncts body))) d
+  some_gives : (place : BinderPlace) (os : List Over) (ns : Names) (body : Tree) → AllEndsGive ns (conjuncts body) os → Gives k (under_binders os ns) an_integer body
+      → Gives k ns an_integer (some place os body)
+  some_gives place os ns body d e =
+      every_over place false (conjuncts body) os ns (or_truth (kept os 0 None (conjuncts body))) d
       (or_truth_is k (under_binders os ns) (kept os 0 None (conjuncts body))
       (kept_are k (under_binders os ns) os 0 None (conjuncts body) tt (conjuncts_are k (under_binders os ns) body e)))
 
-  pub quantified_gives : (a : Bool) (os : List Over) (ns : Names) (body : Tree) → AllEndsGive ns (ranging a body) os
+  pub quantified_gives : (place : BinderPlace) (a : Bool) (os : List Over) (ns : Names) (body : Tree) → AllEndsGive ns (ranging a body) os
       → Gives k (under_binders os ns) an_integer body
-      → Gives k ns an_integer (quantified a os body)
+      → Gives k ns an_integer (quantified place a os body)
   unfolding quantified
-  quantified_gives true os ns body d e = every_gives os ns body d e
-  quantified_gives false os ns body d e = some_gives os ns body d e
+  quantified_gives place true os ns body d e = every_gives place os ns body d e
+  quantified_gives place false os ns body d e = some_gives place os ns body d e
 
   end_unseen : (b : Bool) (o : Option What) (t : Tree) → b ≡ false → kid_gives a_number (more t stop) b o ≡ Some an_integer
   end_unseen true o t e = absurd cc

@@ -164,10 +164,10 @@ gives k ns (head.LinkPointers how) (a_pointer ∷ []) = Some a_linked_pointer
 -- binders: the value of `\let` is no object
 gives k ns head.Let (an_integer ∷ an_integer ∷ []) = Some an_integer
 gives k ns head.Let (a_pointer ∷ an_integer ∷ []) = Some an_integer
-gives k ns (head.Every (range.Kind kind)) (an_integer ∷ []) = Some an_integer
-gives k ns (head.Every (range.Between l h)) (an_integer ∷ an_integer ∷ an_integer ∷ []) = Some an_integer
-gives k ns (head.Some (range.Kind kind)) (an_integer ∷ []) = Some an_integer
-gives k ns (head.Some (range.Between l h)) (an_integer ∷ an_integer ∷ an_integer ∷ []) = Some an_integer
+gives k ns (head.Every (range.Kind kind place)) (an_integer ∷ []) = Some an_integer
+gives k ns (head.Every (range.Between l h place)) (an_integer ∷ an_integer ∷ an_integer ∷ []) = Some an_integer
+gives k ns (head.Some (range.Kind kind place)) (an_integer ∷ []) = Some an_integer
+gives k ns (head.Some (range.Between l h place)) (an_integer ∷ an_integer ∷ an_integer ∷ []) = Some an_integer
 -- sets of addresses
 gives k ns (head.Valid content writable) (an_object ∷ []) = Some an_integer
 gives k ns (head.Region content) (an_object ∷ []) = Some a_region

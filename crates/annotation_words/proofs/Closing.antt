@@ -375,9 +375,9 @@ module _ (xs : List (List ℕ)) where
 
   pub ends_closed : (m : Machdep) (g : Range) (ts : List Terms) → Holds C (as_integer (terms_at ts 0)) → Holds C (as_integer (terms_at ts 1))
       → Holds EndsClosed (ends_of m g ts)
-  ends_closed m (range.Between p q) ts a b = by (as_integer (terms_at ts 0)) (as_integer (terms_at ts 1)) a b where
+  ends_closed m (range.Between p q place) ts a b = by (as_integer (terms_at ts 0)) (as_integer (terms_at ts 1)) a b where
     by : (o o' : Option Term) → Holds C o → Holds C o' → Holds EndsClosed (encode.on_two (λ t u. record { low = low_end p t; high = high_end q u }) o o')
     by (Some t) (Some u) a b = (low_closed p t a, high_closed q u b)
     by (Some t) None a b = tt
     by None o' a b = tt
-  ends_closed m (range.Kind k) ts a b = (refl, refl)
+  ends_closed m (range.Kind k place) ts a b = (refl, refl)

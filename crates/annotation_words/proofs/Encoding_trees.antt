@@ -7,6 +7,7 @@ use Rattle.std.proofs.lemmas.Bool.Decides.{Decides-eqb}
 use Rattle.std.proofs.lemmas.List.{at_drop_more, at_drop_all, map-append}
 use Rattle.c_kinds.specs.declared.models.Machdep.{Machdep}
 use Rattle.acsl_trees.specs.declared.heads.Label.{Label}
+use Rattle.acsl_trees.specs.declared.heads.BinderPlace.{BinderPlace}
 use Rattle.acsl_trees.specs.declared.heads.Range.{Range}
 use Rattle.acsl_trees.specs.declared.heads.Range.TheVariants as range
 use Rattle.acsl_trees.specs.declared.heads.Head.{Head}
@@ -228,6 +229,6 @@ module _ (r : Reading) (ns : List code.Terms) (i : ℕ) (kids : List Code) where
 
 -- ---- ends of ranges
 
-pub ends_of_two : (m : Machdep) (p q : Bool) (o : Option Ends) (x y : Terms) (xs : List Terms) → x ≡ terms_at xs 0 → y ≡ terms_at xs 1
-    → o ≡ between p q (as_integer x) (as_integer y) → o ≡ ends_of m (range.Between p q) xs
-ends_of_two m p q o x y xs e h made = made ∙ (λ i. between p q (as_integer (e i)) (as_integer (h i)))
+pub ends_of_two : (m : Machdep) (p q : Bool) (place : BinderPlace) (o : Option Ends) (x y : Terms) (xs : List Terms) → x ≡ terms_at xs 0 → y ≡ terms_at xs 1
+    → o ≡ between p q (as_integer x) (as_integer y) → o ≡ ends_of m (range.Between p q place) xs
+ends_of_two m p q place o x y xs e h made = made ∙ (λ i. between p q (as_integer (e i)) (as_integer (h i)))

@@ -265,8 +265,8 @@ module _ (ss : List Slots) where
   ends_are false false t u = refl
 
   pub ends_filled : (m : Machdep) (g : Range) (xs : List Terms) → ends_of m g (map (fill_terms ss) xs) ≡ option_map fill_ends (ends_of m g xs)
-  ends_filled m (range.Between p q) xs =
+  ends_filled m (range.Between p q place) xs =
       (λ i. on_two (λ t u. record { low = low_end p t; high = high_end q u }) (as_integer (kid_filled xs 0 i)) (as_integer (kid_filled xs 1 i)))
       ∙ (λ i. on_two (λ t u. record { low = low_end p t; high = high_end q u }) (integer_filled (terms_at xs 0) i) (integer_filled (terms_at xs 1) i))
       ∙ on_two_filled (fill ss) fill_ends (λ t u. record { low = low_end p t; high = high_end q u }) (ends_are p q) (as_integer (terms_at xs 0)) (as_integer (terms_at xs 1))
-  ends_filled m (range.Kind k) xs = refl
+  ends_filled m (range.Kind k place) xs = refl

@@ -180,7 +180,7 @@ fn kind_of(range: Range) -> Option<Kind>
 {
     match range {
         Range::Between { .. } => None,
-        Range::Kind(kind) => Some(kind),
+        Range::Kind(kind, _) => Some(kind),
     }
 }
 

@@ -183,11 +183,15 @@ fn encode_ends(
     ensures { IfOk result (λ ends. option_map view_ends ends ≡ spec.ends_of (view_reading reading.entry).common.model range (encoded.kids_terms (view_reading reading.entry) names.now next (trees_of (view_trees kids.now)))) }
 {
     match range {
-        Range::Kind(kind) => {
+        Range::Kind(kind, _) => {
             let ends = kind_ends(reading.facts.model, kind)?;
             Ok(Some(ends))
         }
-        Range::Between { low_out, high_out } => {
+        Range::Between {
+            low_out,
+            high_out,
+            place: _,
+        } => {
             let low = encode_at(alloc, kids, reading, names, next, 0)?;
             let high = encode_at(alloc, kids, reading, names, next, 1)?;
             let ends = ends_between(alloc, low_out, high_out, low, high)?;

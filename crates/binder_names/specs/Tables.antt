@@ -1,5 +1,5 @@
--- The table of a file's annotations with their binders, and the law that all of them are names of C. Where two annotations are the same tree, the first one
--- counts.
+-- The table of a file's annotations with their binders, and the law that all of them are names of C. Where two annotations are the same tree, at
+-- the same places, the first one counts.
 use Rattle.std.specs.Prelude.{◌≡◌, ℕ, Bool, true, if◌then◌else◌, List, [], ◌∷◌, ◌++◌, Option, Some, None}
 use Rattle.std.specs.List.{list_all}
 use Rattle.c_syntax.specs.Pred.{Pred}

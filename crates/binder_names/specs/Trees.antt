@@ -1,4 +1,5 @@
--- Whether two typed annotations are one tree: heads are compared by their rank and by two numbers of what stands in them, and kids one by one.
+-- Whether two typed annotations are one tree: heads are compared by their rank and by three numbers of what stands in them, and kids one by one. Quantifiers
+-- that are spelled alike are told apart by their places.
 use Rattle.std.specs.Prelude.{ℕ, ◌+◌, ◌==◌, Bool, true, false, ◌&&◌, ℤ, pos, Option, Some, None}
 use Rattle.std.specs.Ordering.{int_eq}
 use Rattle.wp_base.specs.Kinds.{kind_place}
@@ -8,6 +9,7 @@ use Rattle.typed_prog.specs.declared.operators.Arithmetic.{Arithmetic}
 use Rattle.typed_prog.specs.declared.operators.Arithmetic.TheVariants as ar
 use Rattle.typed_prog.specs.declared.operators.Comparison.{Comparison}
 use Rattle.typed_prog.specs.declared.operators.Comparison.TheVariants as cmp
+use Rattle.acsl_trees.specs.declared.heads.BinderPlace.{BinderPlace}
 use Rattle.acsl_trees.specs.declared.heads.Content.{Content}
 use Rattle.acsl_trees.specs.declared.heads.Content.TheVariants as content
 use Rattle.acsl_trees.specs.declared.heads.Label.{Label}
@@ -47,8 +49,13 @@ ends_number false true = 14
 ends_number false false = 15
 
 abbrev pub range_number : Range → ℕ
-range_number (range.Between a z) = ends_number a z
-range_number (range.Kind k) = kind_place k
+range_number (range.Between a z place) = ends_number a z
+range_number (range.Kind k place) = kind_place k
+
+-- where the quantifier of a range stands
+abbrev pub place_of : Range → BinderPlace
+place_of (range.Between a z place) = place
+place_of (range.Kind k place) = place
 
 abbrev pub arithmetic_number : Arithmetic → ℕ
 arithmetic_number ar.Mul = 0
@@ -72,18 +79,23 @@ comparison_number cmp.NotEqual = 5
 
 -- ---- heads
 
--- a number of the head, and two of what stands in it
+-- a number of the head, and three of what stands in it
 pub record Key : Type 0 where
   pub rank : ℕ
   pub first : ℕ
   pub second : ℕ
+  pub third : ℕ
 
 abbrev pub key : (rank first second : ℕ) → Key
-key r a b = record { rank = r; first = a; second = b }
+key r a b = record { rank = r; first = a; second = b; third = 0 }
 
 abbrev pub variable_key : Variable → Key
 variable_key (variables.Global x) = key 6 0 x
 variable_key (variables.Local x) = key 6 1 x
+
+-- a quantifier's range, and its place
+abbrev pub quantifier_key : (rank : ℕ) → Range → Key
+quantifier_key r g = record { rank = r; first = range_number g; second = (place_of g).line; third = (place_of g).node }
 
 -- beside the number that stands in it, if there is one
 abbrev pub key_of : Head → Key
@@ -120,8 +132,8 @@ key_of h.Chain = key 29 0 0
 key_of (h.Link c) = key 30 (comparison_number c) 0
 key_of (h.LinkPointers c) = key 31 (comparison_number c) 0
 key_of h.Let = key 32 0 0
-key_of (h.Every g) = key 33 (range_number g) 0
-key_of (h.Some g) = key 34 (range_number g) 0
+key_of (h.Every g) = quantifier_key 33 g
+key_of (h.Some g) = quantifier_key 34 g
 key_of (h.Valid c w) = key 35 (content_number c) (flag w)
 key_of h.Separated = key 36 0 0
 key_of (h.Region c) = key 37 (content_number c) 0
@@ -131,7 +143,7 @@ number_in (h.Number z) = z
 number_in head = pos 0
 
 abbrev pub same_key : Key → Key → Bool
-same_key k l = k.rank == l.rank && (k.first == l.first && k.second == l.second)
+same_key k l = k.rank == l.rank && (k.first == l.first && (k.second == l.second && k.third == l.third))
 
 abbrev pub same_head : Head → Head → Bool
 same_head f g = same_key (key_of f) (key_of g) && int_eq (number_in f) (number_in g)

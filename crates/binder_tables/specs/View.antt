@@ -22,7 +22,7 @@ use Rattle.binder_tables.specs.declared.entries.Entry.{Entry}
 use Rattle.binder_tables.specs.declared.tables.Table.{Table}
 
 abbrev pub view_key : Key → trees.Key
-view_key k = record { rank = k.rank; first = k.first; second = k.second }
+view_key k = record { rank = k.rank; first = k.first; second = k.second; third = k.third }
 
 abbrev pub view_known : Known → binders.Known
 view_known k = record { name = k.name; binders = k.binders }

@@ -5,16 +5,17 @@ ghost use Rattle.binder_names.specs.Trees as spec;
 ghost use Rattle.binder_tables.specs.View.{view_key};
 ghost use Rattle.wp_base.specs.Kinds as kinds;
 
-use acsl_trees::{Content, Head, Label, Range};
+use acsl_trees::{BinderPlace, Content, Head, Label, Range};
 use typed_prog::{Arithmetic, Comparison, Variable};
 use wp_base::Kind;
 
-/// A number of a head, and two of what stands in it.
+/// A number of a head, and three of what stands in it.
 #[derive(Clone, Copy)]
 struct Key {
     rank: u8,
     first: u64,
     second: u64,
+    third: u64,
 }
 
 // ---- what stands in heads
@@ -88,8 +89,26 @@ fn range_number(range: Range) -> u64
     ensures { result ≡ spec.range_number range }
 {
     match range {
-        Range::Between { low_out, high_out } => ends_number(low_out, high_out),
-        Range::Kind(kind) => kind_place(kind),
+        Range::Between {
+            low_out,
+            high_out,
+            place: _,
+        } => ends_number(low_out, high_out),
+        Range::Kind(kind, _) => kind_place(kind),
+    }
+}
+
+// Where the quantifier of a range stands.
+fn place_of(range: Range) -> BinderPlace
+    ensures { result ≡ spec.place_of range }
+{
+    match range {
+        Range::Between {
+            low_out: _,
+            high_out: _,
+            place,
+        } => place,
+        Range::Kind(_, place) => place,
     }
 }
 
@@ -132,6 +151,7 @@ fn make_key(rank: u8, first: u64, second: u64) -> Key
         rank,
         first,
         second,
+        third: 0,
     }
 }
 
@@ -141,6 +161,19 @@ fn variable_key(variable: Variable) -> Key
     match variable {
         Variable::Global(number) => make_key(6, 0, u64::from(number)),
         Variable::Local(number) => make_key(6, 1, u64::from(number)),
+    }
+}
+
+// That of a quantifier over a range.
+fn quantifier_key(rank: u8, range: Range) -> Key
+    ensures { view_key result ≡ spec.quantifier_key rank range }
+{
+    let place = place_of(range);
+    Key {
+        rank,
+        first: range_number(range),
+        second: u64::from(place.line),
+        third: u64::from(place.node),
     }
 }
 
@@ -185,8 +218,8 @@ fn key_of(head: Head) -> Key
         Head::Link(op) => make_key(30, comparison_number(op), 0),
         Head::LinkPointers(op) => make_key(31, comparison_number(op), 0),
         Head::Let => make_key(32, 0, 0),
-        Head::Every(range) => make_key(33, range_number(range), 0),
-        Head::Some(range) => make_key(34, range_number(range), 0),
+        Head::Every(range) => quantifier_key(33, range),
+        Head::Some(range) => quantifier_key(34, range),
         Head::Valid { content, writable } => make_key(35, content_number(content), flag(writable)),
         Head::Separated => make_key(36, 0, 0),
         Head::Region(content) => make_key(37, content_number(content), 0),
@@ -242,7 +275,8 @@ fn number_in(head: Head) -> i128
 fn is_same_key(left: Key, right: Key) -> bool
     ensures { result ≡ spec.same_key (view_key left) (view_key right) }
 {
-    left.rank == right.rank && (left.first == right.first && left.second == right.second)
+    left.rank == right.rank
+        && (left.first == right.first && (left.second == right.second && left.third == right.third))
 }
 
 fn is_same_number(left: i128, right: i128) -> bool

@@ -265,50 +265,50 @@ module _ (p : Place) where
         let x = closed_tree t r ns i d xs s c n b.0 in
         closed_tree v r (with_name d (encoded r ns i d t) ns) (i + binders t) (suc d) xs s c (named_closed xs d (encoded r ns i d t) ns x n) b'.0
     closed_tree (node h.Let (more t (more v (more w ts)))) r ns i d xs s c n e = absurd (false≢true e)
-    closed_tree (node (h.Every (range.Kind k)) stop) r ns i d xs s c n e = absurd (false≢true e)
-    closed_tree (node (h.Every (range.Kind k)) (more t stop)) r ns i d xs s c n e =
+    closed_tree (node (h.Every (range.Kind k place)) stop) r ns i d xs s c n e = absurd (false≢true e)
+    closed_tree (node (h.Every (range.Kind k place)) (more t stop)) r ns i d xs s c n e =
         let b = and_parts (is_plain p (suc d) t) true e in
         let ns' = with_name d (integer (Some k) (var (r.common.binder i))) ns in
-        range_every r i xs (encode.ends_of r.common.model (range.Kind k) (all_encoded r ns (suc i) d (more t stop))) (encoded r ns' (suc i) (suc d) t) c (refl, refl)
+        range_every r i xs (encode.ends_of r.common.model (range.Kind k place) (all_encoded r ns (suc i) d (more t stop))) (encoded r ns' (suc i) (suc d) t) c (refl, refl)
         (closed_tree t r ns' (suc i) (suc d) (r.common.binder i ∷ xs) s c (under r ns i d xs (Some k) n) b.0)
-    closed_tree (node (h.Every (range.Kind k)) (more t (more v ts))) r ns i d xs s c n e = absurd (false≢true e)
-    closed_tree (node (h.Every (range.Between q z)) stop) r ns i d xs s c n e = absurd (false≢true e)
-    closed_tree (node (h.Every (range.Between q z)) (more t stop)) r ns i d xs s c n e = absurd (false≢true e)
-    closed_tree (node (h.Every (range.Between q z)) (more t (more v stop))) r ns i d xs s c n e = absurd (false≢true e)
-    closed_tree (node (h.Every (range.Between q z)) (more t (more v (more w stop)))) r ns i d xs s c n e =
+    closed_tree (node (h.Every (range.Kind k place)) (more t (more v ts))) r ns i d xs s c n e = absurd (false≢true e)
+    closed_tree (node (h.Every (range.Between q z place)) stop) r ns i d xs s c n e = absurd (false≢true e)
+    closed_tree (node (h.Every (range.Between q z place)) (more t stop)) r ns i d xs s c n e = absurd (false≢true e)
+    closed_tree (node (h.Every (range.Between q z place)) (more t (more v stop))) r ns i d xs s c n e = absurd (false≢true e)
+    closed_tree (node (h.Every (range.Between q z place)) (more t (more v (more w stop)))) r ns i d xs s c n e =
         let b = and_parts (is_plain p d t) (is_plain p d v && (is_plain p (suc d) w && true)) e in
         let b' = and_parts (is_plain p d v) (is_plain p (suc d) w && true) b.1 in
         let b'' = and_parts (is_plain p (suc d) w) true b'.1 in
         let ns' = with_name d (integer None (var (r.common.binder i))) ns in
         let x = encoded r ns (suc i) d t in
         let y = encoded r ns (suc i + binders t) d v in
-        range_every r i xs (encode.ends_of r.common.model (range.Between q z) (all_encoded r ns (suc i) d (more t (more v (more w stop)))))
+        range_every r i xs (encode.ends_of r.common.model (range.Between q z place) (all_encoded r ns (suc i) d (more t (more v (more w stop)))))
         (encoded r ns' ((suc i + binders t) + binders v) (suc d) w) c
         (ends_given xs q z (as_integer x) (as_integer y) (number_closed xs x (closed_tree t r ns (suc i) d xs s c n b.0)) (number_closed xs y (closed_tree v r ns (suc i + binders t) d xs s c n b'.0)))
         (closed_tree w r ns' ((suc i + binders t) + binders v) (suc d) (r.common.binder i ∷ xs) s c (under r ns i d xs None n) b''.0)
-    closed_tree (node (h.Every (range.Between q z)) (more t (more v (more w (more y ts))))) r ns i d xs s c n e = absurd (false≢true e)
-    closed_tree (node (h.Some (range.Kind k)) stop) r ns i d xs s c n e = absurd (false≢true e)
-    closed_tree (node (h.Some (range.Kind k)) (more t stop)) r ns i d xs s c n e =
+    closed_tree (node (h.Every (range.Between q z place)) (more t (more v (more w (more y ts))))) r ns i d xs s c n e = absurd (false≢true e)
+    closed_tree (node (h.Some (range.Kind k place)) stop) r ns i d xs s c n e = absurd (false≢true e)
+    closed_tree (node (h.Some (range.Kind k place)) (more t stop)) r ns i d xs s c n e =
         let b = and_parts (is_plain p (suc d) t) true e in
         let ns' = with_name d (integer (Some k) (var (r.common.binder i))) ns in
-        range_some r i xs (encode.ends_of r.common.model (range.Kind k) (all_encoded r ns (suc i) d (more t stop))) (encoded r ns' (suc i) (suc d) t) c (refl, refl)
+        range_some r i xs (encode.ends_of r.common.model (range.Kind k place) (all_encoded r ns (suc i) d (more t stop))) (encoded r ns' (suc i) (suc d) t) c (refl, refl)
         (closed_tree t r ns' (suc i) (suc d) (r.common.binder i ∷ xs) s c (under r ns i d xs (Some k) n) b.0)
-    closed_tree (node (h.Some (range.Kind k)) (more t (more v ts))) r ns i d xs s c n e = absurd (false≢true e)
-    closed_tree (node (h.Some (range.Between q z)) stop) r ns i d xs s c n e = absurd (false≢true e)
-    closed_tree (node (h.Some (range.Between q z)) (more t stop)) r ns i d xs s c n e = absurd (false≢true e)
-    closed_tree (node (h.Some (range.Between q z)) (more t (more v stop))) r ns i d xs s c n e = absurd (false≢true e)
-    closed_tree (node (h.Some (range.Between q z)) (more t (more v (more w stop)))) r ns i d xs s c n e =
+    closed_tree (node (h.Some (range.Kind k place)) (more t (more v ts))) r ns i d xs s c n e = absurd (false≢true e)
+    closed_tree (node (h.Some (range.Between q z place)) stop) r ns i d xs s c n e = absurd (false≢true e)
+    closed_tree (node (h.Some (range.Between q z place)) (more t stop)) r ns i d xs s c n e = absurd (false≢true e)
+    closed_tree (node (h.Some (range.Between q z place)) (more t (more v stop))) r ns i d xs s c n e = absurd (false≢true e)
+    closed_tree (node (h.Some (range.Between q z place)) (more t (more v (more w stop)))) r ns i d xs s c n e =
         let b = and_parts (is_plain p d t) (is_plain p d v && (is_plain p (suc d) w && true)) e in
         let b' = and_parts (is_plain p d v) (is_plain p (suc d) w && true) b.1 in
         let b'' = and_parts (is_plain p (suc d) w) true b'.1 in
         let ns' = with_name d (integer None (var (r.common.binder i))) ns in
         let x = encoded r ns (suc i) d t in
         let y = encoded r ns (suc i + binders t) d v in
-        range_some r i xs (encode.ends_of r.common.model (range.Between q z) (all_encoded r ns (suc i) d (more t (more v (more w stop)))))
+        range_some r i xs (encode.ends_of r.common.model (range.Between q z place) (all_encoded r ns (suc i) d (more t (more v (more w stop)))))
         (encoded r ns' ((suc i + binders t) + binders v) (suc d) w) c
         (ends_given xs q z (as_integer x) (as_integer y) (number_closed xs x (closed_tree t r ns (suc i) d xs s c n b.0)) (number_closed xs y (closed_tree v r ns (suc i + binders t) d xs s c n b'.0)))
         (closed_tree w r ns' ((suc i + binders t) + binders v) (suc d) (r.common.binder i ∷ xs) s c (under r ns i d xs None n) b''.0)
-    closed_tree (node (h.Some (range.Between q z)) (more t (more v (more w (more y ts))))) r ns i d xs s c n e = absurd (false≢true e)
+    closed_tree (node (h.Some (range.Between q z place)) (more t (more v (more w (more y ts))))) r ns i d xs s c n e = absurd (false≢true e)
     closed_tree (node (h.Valid z0 z1) ks) r ns i d xs s c n e = absurd (false≢true e)
     closed_tree (node h.Separated ks) r ns i d xs s c n e = absurd (false≢true e)
     closed_tree (node (h.Region z0) ks) r ns i d xs s c n e = absurd (false≢true e)

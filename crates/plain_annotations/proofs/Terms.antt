@@ -168,52 +168,52 @@ module _ (p : Place) where
         let x = integer_tree t r ns i d s n b.0 in
         integer_tree u r (with_name d (encoded r ns i d t) ns) (i + binders t) (suc d) s (named_serves d (encoded r ns i d t) ns x n) c.0
     integer_tree (node h.Let (more t (more u (more v ts)))) r ns i d s n e = absurd (false≢true e)
-    integer_tree (node (h.Every (range.Kind k)) stop) r ns i d s n e = absurd (false≢true e)
-    integer_tree (node (h.Every (range.Kind k)) (more t stop)) r ns i d s n e =
+    integer_tree (node (h.Every (range.Kind k place)) stop) r ns i d s n e = absurd (false≢true e)
+    integer_tree (node (h.Every (range.Kind k place)) (more t stop)) r ns i d s n e =
         let b = and_parts (is_plain p (suc d) t) true e in
-        quantified_integer (th.Forall (r.common.binder i)) (encode.ends_of r.common.model (range.Kind k) (all_encoded r ns (suc i) d (more t stop)))
+        quantified_integer (th.Forall (r.common.binder i)) (encode.ends_of r.common.model (range.Kind k place) (all_encoded r ns (suc i) d (more t stop)))
         (encoded r (with_name d (integer (Some k) (var (r.common.binder i))) ns) (suc i) (suc d) t) tt
         (integer_tree t r (with_name d (integer (Some k) (var (r.common.binder i))) ns) (suc i) (suc d) s
         (named_serves d (integer (Some k) (var (r.common.binder i))) ns tt n) b.0)
-    integer_tree (node (h.Every (range.Kind k)) (more t (more u ts))) r ns i d s n e = absurd (false≢true e)
-    integer_tree (node (h.Every (range.Between a z)) stop) r ns i d s n e = absurd (false≢true e)
-    integer_tree (node (h.Every (range.Between a z)) (more t stop)) r ns i d s n e = absurd (false≢true e)
-    integer_tree (node (h.Every (range.Between a z)) (more t (more u stop))) r ns i d s n e = absurd (false≢true e)
-    integer_tree (node (h.Every (range.Between a z)) (more t (more u (more v stop)))) r ns i d s n e =
+    integer_tree (node (h.Every (range.Kind k place)) (more t (more u ts))) r ns i d s n e = absurd (false≢true e)
+    integer_tree (node (h.Every (range.Between a z place)) stop) r ns i d s n e = absurd (false≢true e)
+    integer_tree (node (h.Every (range.Between a z place)) (more t stop)) r ns i d s n e = absurd (false≢true e)
+    integer_tree (node (h.Every (range.Between a z place)) (more t (more u stop))) r ns i d s n e = absurd (false≢true e)
+    integer_tree (node (h.Every (range.Between a z place)) (more t (more u (more v stop)))) r ns i d s n e =
         let b = and_parts (is_plain p d t) (are_plain p d true (more u (more v stop))) e in
         let c = and_parts (is_plain p d u) (are_plain p d true (more v stop)) b.1 in
         let f = and_parts (is_plain p (suc d) v) true c.1 in
         let ns' = with_name d (integer None (var (r.common.binder i))) ns in
         let x = integer_tree t r ns (suc i) d s n b.0 in
         let y = integer_tree u r ns (suc i + binders t) d s n c.0 in
-        quantified_integer (th.Forall (r.common.binder i)) (encode.ends_of r.common.model (range.Between a z) (all_encoded r ns (suc i) d (more t (more u (more v stop)))))
+        quantified_integer (th.Forall (r.common.binder i)) (encode.ends_of r.common.model (range.Between a z place) (all_encoded r ns (suc i) d (more t (more u (more v stop)))))
         (encoded r ns' ((suc i + binders t) + binders u) (suc d) v)
         (ends_there (λ t u. record { low = encode.low_end a t; high = encode.high_end z u }) (encoded r ns (suc i) d t) (encoded r ns (suc i + binders t) d u) x y)
         (integer_tree v r ns' ((suc i + binders t) + binders u) (suc d) s (named_serves d (integer None (var (r.common.binder i))) ns tt n) f.0)
-    integer_tree (node (h.Every (range.Between a z)) (more t (more u (more v (more y ts))))) r ns i d s n e = absurd (false≢true e)
-    integer_tree (node (h.Some (range.Kind k)) stop) r ns i d s n e = absurd (false≢true e)
-    integer_tree (node (h.Some (range.Kind k)) (more t stop)) r ns i d s n e =
+    integer_tree (node (h.Every (range.Between a z place)) (more t (more u (more v (more y ts))))) r ns i d s n e = absurd (false≢true e)
+    integer_tree (node (h.Some (range.Kind k place)) stop) r ns i d s n e = absurd (false≢true e)
+    integer_tree (node (h.Some (range.Kind k place)) (more t stop)) r ns i d s n e =
         let b = and_parts (is_plain p (suc d) t) true e in
-        quantified_integer (th.Exists (r.common.binder i)) (encode.ends_of r.common.model (range.Kind k) (all_encoded r ns (suc i) d (more t stop)))
+        quantified_integer (th.Exists (r.common.binder i)) (encode.ends_of r.common.model (range.Kind k place) (all_encoded r ns (suc i) d (more t stop)))
         (encoded r (with_name d (integer (Some k) (var (r.common.binder i))) ns) (suc i) (suc d) t) tt
         (integer_tree t r (with_name d (integer (Some k) (var (r.common.binder i))) ns) (suc i) (suc d) s
         (named_serves d (integer (Some k) (var (r.common.binder i))) ns tt n) b.0)
-    integer_tree (node (h.Some (range.Kind k)) (more t (more u ts))) r ns i d s n e = absurd (false≢true e)
-    integer_tree (node (h.Some (range.Between a z)) stop) r ns i d s n e = absurd (false≢true e)
-    integer_tree (node (h.Some (range.Between a z)) (more t stop)) r ns i d s n e = absurd (false≢true e)
-    integer_tree (node (h.Some (range.Between a z)) (more t (more u stop))) r ns i d s n e = absurd (false≢true e)
-    integer_tree (node (h.Some (range.Between a z)) (more t (more u (more v stop)))) r ns i d s n e =
+    integer_tree (node (h.Some (range.Kind k place)) (more t (more u ts))) r ns i d s n e = absurd (false≢true e)
+    integer_tree (node (h.Some (range.Between a z place)) stop) r ns i d s n e = absurd (false≢true e)
+    integer_tree (node (h.Some (range.Between a z place)) (more t stop)) r ns i d s n e = absurd (false≢true e)
+    integer_tree (node (h.Some (range.Between a z place)) (more t (more u stop))) r ns i d s n e = absurd (false≢true e)
+    integer_tree (node (h.Some (range.Between a z place)) (more t (more u (more v stop)))) r ns i d s n e =
         let b = and_parts (is_plain p d t) (are_plain p d true (more u (more v stop))) e in
         let c = and_parts (is_plain p d u) (are_plain p d true (more v stop)) b.1 in
         let f = and_parts (is_plain p (suc d) v) true c.1 in
         let ns' = with_name d (integer None (var (r.common.binder i))) ns in
         let x = integer_tree t r ns (suc i) d s n b.0 in
         let y = integer_tree u r ns (suc i + binders t) d s n c.0 in
-        quantified_integer (th.Exists (r.common.binder i)) (encode.ends_of r.common.model (range.Between a z) (all_encoded r ns (suc i) d (more t (more u (more v stop)))))
+        quantified_integer (th.Exists (r.common.binder i)) (encode.ends_of r.common.model (range.Between a z place) (all_encoded r ns (suc i) d (more t (more u (more v stop)))))
         (encoded r ns' ((suc i + binders t) + binders u) (suc d) v)
         (ends_there (λ t u. record { low = encode.low_end a t; high = encode.high_end z u }) (encoded r ns (suc i) d t) (encoded r ns (suc i + binders t) d u) x y)
         (integer_tree v r ns' ((suc i + binders t) + binders u) (suc d) s (named_serves d (integer None (var (r.common.binder i))) ns tt n) f.0)
-    integer_tree (node (h.Some (range.Between a z)) (more t (more u (more v (more y ts))))) r ns i d s n e = absurd (false≢true e)
+    integer_tree (node (h.Some (range.Between a z place)) (more t (more u (more v (more y ts))))) r ns i d s n e = absurd (false≢true e)
     integer_tree (node (h.Valid c w) ks) r ns i d s n e = absurd (false≢true e)
     integer_tree (node h.Separated ks) r ns i d s n e = absurd (false≢true e)
     integer_tree (node (h.Region c) ks) r ns i d s n e = absurd (false≢true e)

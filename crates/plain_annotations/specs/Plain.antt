@@ -52,8 +52,8 @@ reads_variable vs (more (node (h.Variable x) us) ts) = vs x
 reads_variable vs ks = false
 
 abbrev pub ends : Range → ℕ
-ends (range.Between low_out high_out) = 2
-ends (range.Kind k) = 0
+ends (range.Between low_out high_out place) = 2
+ends (range.Kind k place) = 0
 
 -- a node, where so many names are around
 abbrev pub node_fits : Place → (around : ℕ) → Head → Trees → Bool

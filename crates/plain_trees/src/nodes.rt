@@ -123,7 +123,7 @@ fn bound_kids(range: Range) -> usize
 {
     match range {
         Range::Between { .. } => 3,
-        Range::Kind(_) => 1,
+        Range::Kind(_, _) => 1,
     }
 }
 

@@ -41,8 +41,12 @@ fn comparison_word(op: Comparison) -> &'static str {
 // Which ends are left out, as brackets.
 fn range_word(range: Range) -> &'static str {
     match range {
-        Range::Kind(_) => " kind",
-        Range::Between { low_out, high_out } => match (low_out, high_out) {
+        Range::Kind(_, _) => " kind",
+        Range::Between {
+            low_out,
+            high_out,
+            place: _,
+        } => match (low_out, high_out) {
             (false, false) => "[]",
             (false, true) => "[)",
             (true, false) => "(]",

@@ -5,6 +5,7 @@ use Rattle.typed_prog.specs.declared.operators.Arithmetic.TheVariants as ar
 use Rattle.typed_prog.specs.declared.operators.Comparison.TheVariants as cmp
 use Rattle.typed_prog.specs.declared.operators.Variable.TheVariants as variable
 use Rattle.typed_prog.specs.Tree.{Value}
+use Rattle.acsl_trees.specs.declared.heads.BinderPlace.{BinderPlace}
 use Rattle.acsl_trees.specs.declared.heads.Content.TheVariants as content
 use Rattle.acsl_trees.specs.declared.heads.Head.TheVariants as h
 use Rattle.acsl_trees.specs.declared.heads.Label.{Label}
@@ -168,8 +169,12 @@ with_definitions ds p = record p { facts = record p.facts { definitions = ds } }
 abbrev pub says : List Definition → Tree → ℤ → Shown
 says ds t n = outcome (with_definitions ds (said_of t)) (n ∷ []) 1 []
 
+-- where the quantifiers stand, which says nothing of the truth
+abbrev pub here : BinderPlace
+here = record { line = 5; node = 1 }
+
 abbrev pub below_n : Range
-below_n = range.Between false true
+below_n = range.Between false true here
 
 abbrev pub small : Tree
 small = is cmp.Less (leaf (h.Name 0)) (lit (pos 2))
@@ -192,7 +197,7 @@ pub record Says : Type 0 where
   pub every_backwards : says [] (three (h.Every below_n) (lit (pos 0)) (it 0) (lit (pos 0))) (negsuc 3) ≡ returned (pos 0) 0
   pub some : says [] (three (h.Some below_n) (lit (pos 0)) (it 0) small) (pos 1) ≡ returned (pos 0) 0
   pub some_of_none : says [] (three (h.Some below_n) (lit (pos 0)) (it 0) (lit (pos 1))) (pos 0) ≡ broke assert 5
-  pub of_a_kind : says [] (one (h.Every (range.Kind kind.Bool)) small) (pos 0) ≡ returned (pos 0) 0
+  pub of_a_kind : says [] (one (h.Every (range.Kind kind.Bool here)) small) (pos 0) ≡ returned (pos 0) 0
   pub above_the_cut : says (len ∷ []) (len_is (pos 3)) (pos 3) ≡ returned (pos 0) 0
   pub at_the_cut : says (len ∷ []) (len_is (pos 0)) (pos 0) ≡ returned (pos 0) 0
   pub below_the_cut : says (len ∷ []) (len_is (pos 0)) (negsuc 4) ≡ returned (pos 0) 0

@@ -19,7 +19,7 @@ use Rattle.walk_steps.specs.State.{at_or}
 use Rattle.walk_steps.specs.Forms.{Slots}
 use Rattle.program_steps.specs.Leaves.{after_as, leaf_name, leaf, slot_named, as_integer, is_marked, fill, or_false, closed}
 use Rattle.program_steps.specs.Terms as terms
-use Rattle.program_steps.specs.Terms.{Texts, held_in, global_slot, local_slot, slot_of, common_of, body_reading, return_reading, or_none, claim_tree}
+use Rattle.program_steps.specs.Terms.{Texts, held_in, global_slot, local_slot, slot_of, common_of, body_reading, return_reading, or_none, claim_tree, kind_given}
 use Rattle.program_steps.proofs.Listing.{slot_leaf}
 use Rattle.acsl_encode.specs.Readings.{whole, any_integer, Reading, integer}
 use Rattle.acsl_encode.specs.Binders.{Spelled, spelled_at, bound_before, numbered}
@@ -175,7 +175,7 @@ module _ (p : Facts) (s : Shape) where
       pre = seen_filled ss e e i;
       post = seen_filled ss 0 e i;
       loop_entry = seen_filled ss e e i;
-      result = integer None (leaf_filled ss 0 (result_slot (sizes p s)) i);
+      result = integer (kind_given s.result) (leaf_filled ss 0 (result_slot (sizes p s)) i);
       common = common_same a i;
       called = texts.called;
     }

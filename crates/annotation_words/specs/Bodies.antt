@@ -7,6 +7,7 @@ use Rattle.walk_steps.specs.Forms.{Slots}
 use Rattle.acsl_encode.specs.Readings.{Seen, Reading, Called, nothing}
 use Rattle.acsl_encode.specs.Binders.{Spelled}
 use Rattle.annotation_words.specs.Seen.{in_slots, seen_over, common_with, result_in}
+use Rattle.program_steps.specs.Terms.{kind_given}
 
 module _ (p : Facts) (s : Shape) (called : (number : ℕ) → Option Called) (names : Spelled) where
   -- the variables of the file are those of the first state, those of the function those of the second one
@@ -31,7 +32,7 @@ module _ (p : Facts) (s : Shape) (called : (number : ℕ) → Option Called) (na
     pre = slots_seen e e;
     post = slots_seen h e;
     loop_entry = slots_seen e e;
-    result = result_in h (result_slot (sizes p s));
+    result = result_in (kind_given s.result) h (result_slot (sizes p s));
     common = common_with p names;
     called = called;
   }

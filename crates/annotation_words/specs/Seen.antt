@@ -15,6 +15,7 @@ use Rattle.program_steps.specs.Leaves.{as_integer}
 use Rattle.program_steps.specs.Terms.{held_in}
 use Rattle.acsl_encode.specs.Readings.{Slot, whole, absent, Seen, Terms, integer, Common}
 use Rattle.acsl_encode.specs.Binders.{Spelled, numbered}
+use Rattle.wp_base.specs.declared.kinds.Kind.{Kind}
 
 -- ---- slots
 
@@ -81,5 +82,5 @@ is_known absent = false
 is_known s = true
 
 -- the result in a slot
-abbrev pub result_in : Slots → (slot : ℕ) → Terms
-result_in ts i = integer None (slot_term ts i)
+abbrev pub result_in : Option Kind → Slots → (slot : ℕ) → Terms
+result_in k ts i = integer k (slot_term ts i)

@@ -44,7 +44,7 @@ view_seen p s = seen_over p (map term_tree s.file.now) (view_locals p s.locals)
 
 abbrev pub view_result : Option SlotAt → r.Terms
 view_result None = nothing
-view_result (Some s) = result_in (map term_tree s.slots.now) s.at
+view_result (Some s) = result_in s.kind (map term_tree s.slots.now) s.at
 
 -- ---- logic functions that call themselves
 

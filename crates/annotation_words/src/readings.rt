@@ -1,4 +1,6 @@
 // What stands for the states that an annotation is read in (ACSL 2.4.3): the terms in the slots of a walk.
+ghost use Rattle.std.specs.Prelude.{◌≡◌};
+ghost use Rattle.program_steps.specs.Terms as terms;
 
 use core_trees::FunctionVariable;
 use program_trees::Facts;
@@ -21,11 +23,23 @@ pub struct Seen<'a> {
     pub locals: Locals<'a>,
 }
 
-/// The term in a slot.
+/// The term in a slot, an integer of this kind if it has one.
 #[derive(Clone, Copy)]
 pub struct SlotAt<'a> {
     pub slots: &'a [Term],
     pub at: usize,
+    pub kind: Option<Kind>,
+}
+
+/// The kind of the integers that a function with this result gives.
+pub fn kind_given(given: Option<CellKind>) -> Option<Kind>
+    ensures { result ≡ terms.kind_given given }
+{
+    match given {
+        Some(CellKind::Of(kind)) => Some(kind),
+        Some(CellKind::Ptr) => None,
+        None => None,
+    }
 }
 
 /// The name of an integer, or those of a pointer's block and offset.

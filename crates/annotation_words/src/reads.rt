@@ -37,7 +37,7 @@ pub fn returned(alloc: Global, place: Option<SlotAt>) -> Result<Terms, NoMemory>
     match place {
         Some(slot) => {
             let term = slot_term(alloc, slot.slots, slot.at)?;
-            Ok(Terms::Integer(None, term))
+            Ok(Terms::Integer(slot.kind, term))
         }
         None => Ok(Terms::Nothing),
     }

@@ -22,7 +22,7 @@ use Rattle.value_terms.specs.Readings.{Term, number_term, term_at}
 use Rattle.acsl_encode.specs.Readings.{Slot, whole, absent, Seen, Reading, integer, nothing}
 use Rattle.acsl_encode.specs.Encode.{formula_of, term_of, all_of}
 use Rattle.program_steps.specs.Leaves.{leaf, fill, is_closed, as_integer}
-use Rattle.program_steps.specs.Terms.{Texts, body_reading, entry_reading, or_none, claim_tree, assumed_tree, or_zero, common_of}
+use Rattle.program_steps.specs.Terms.{Texts, body_reading, entry_reading, or_none, claim_tree, assumed_tree, or_zero, common_of, kind_given}
 use Rattle.value_words.specs.OverSlots.{fill_term}
 use Rattle.value_words.specs.Laws.{AreClosed}
 use Rattle.annotation_words.specs.Seen as seen
@@ -220,13 +220,13 @@ module _ (p : Facts) (s : Shape) (texts : Texts) (g : Function Steps) (es : t.Va
 
     module _ (same : at_or [] ss 1 ≡ at_or [] before 0) where
       returned_filled : (a : acsl.Tree)
-          → filled ss (returned_from p s texts g es a) ≡ returned_over p texts g.variables (answer_slot (sizes p s)) (at_or [] ss 0) (at_or [] ss 1) ts a
+          → filled ss (returned_from p s texts g es a) ≡ returned_over p texts g.variables (kind_given g.result) (answer_slot (sizes p s)) (at_or [] ss 0) (at_or [] ss 1) ts a
       returned_filled a = λ i. record {
         here = seen_filled 1 same 0 i;
         pre = seen_filled 1 same 1 i;
         post = seen_filled 1 same 0 i;
         loop_entry = seen_filled 1 same 1 i;
-        result = integer None (result_filled i);
+        result = integer (kind_given g.result) (result_filled i);
         common = same_common a i;
         called = texts.called;
       }
@@ -234,6 +234,6 @@ module _ (p : Facts) (s : Shape) (texts : Texts) (g : Function Steps) (es : t.Va
           result_filled : fill ss (leaf 0 (answer_slot (sizes p s))) ≡ slot_term (at_or [] ss 0) (answer_slot (sizes p s))
           result_filled = (leaf_said ss 0 (answer_slot (sizes p s))).filled ∙ ap as_integer (same_at (num (pos 0)) (at_or [] ss 0) (answer_slot (sizes p s)))
 
-      pub returned_sees : {r : acsl.Tree → Reading} → ((a : acsl.Tree) → r a ≡ returned_over p texts g.variables (answer_slot (sizes p s)) (at_or [] ss 0) (at_or [] ss 1) ts a)
+      pub returned_sees : {r : acsl.Tree → Reading} → ((a : acsl.Tree) → r a ≡ returned_over p texts g.variables (kind_given g.result) (answer_slot (sizes p s)) (at_or [] ss 0) (at_or [] ss 1) ts a)
           → Sees ss (returned_from p s texts g es) r
       returned_sees e = record { closed = returned_closed; filled = λ a. returned_filled a ∙ sym (e a) }

@@ -6,7 +6,7 @@ use Rattle.qed_terms.specs.Tree.{Tree, Trees, node, stop, more, trees_of, num, t
 use Rattle.walk_steps.specs.Forms.{Slots}
 use Rattle.acsl_encode.specs.Encode.{all_of}
 use Rattle.program_steps.specs.Leaves.{fill, fill_all, is_closed, are_closed}
-use Rattle.program_steps.specs.Words.{as_one, under}
+use Rattle.program_steps.specs.Words.{as_one, as_one_unless, under}
 use Rattle.program_steps.specs.Functions.{any_of}
 use Rattle.call_words.specs.Sets.{truth_tree, only_under}
 use Rattle.walk_frames.specs.Asked.{AreClosed}
@@ -77,9 +77,13 @@ module _ {ss : List Slots} where
   any_said (some a none) = a
   any_said (some a (some b as_)) = record { closed = kids_closed (some a (some b as_)); filled = ap (node h.Or) (kids_filled (some a (some b as_))) }
 
-  pub one_said : {ts us : List Tree} → AreSaid ss ts us → AreSaid ss (as_one ts) (as_one us)
+  one_said : {ts us : List Tree} → AreSaid ss ts us → AreSaid ss (as_one ts) (as_one us)
   one_said none = none
   one_said (some a as_) = some (all_said (some a as_)) none
+
+  pub unless_said : (refused : Bool) {ts us : List Tree} → AreSaid ss ts us → AreSaid ss (as_one_unless refused ts) (as_one_unless refused us)
+  unless_said true as_ = some false_said none
+  unless_said false as_ = one_said as_
 
   pub said_both : {ts us vs ws : List Tree} → AreSaid ss ts us → AreSaid ss vs ws → AreSaid ss (ts ++ vs) (us ++ ws)
   said_both none b = b

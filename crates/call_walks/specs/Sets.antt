@@ -8,9 +8,9 @@ use Rattle.acsl_trees.specs.declared.heads.Head.TheVariants as head
 use Rattle.qed_terms.specs.Tree.{Tree}
 use Rattle.c_runs.specs.Program.{Behavior, Contract, Facts}
 use Rattle.program_steps.specs.Terms.{Texts, has_variable}
-use Rattle.program_steps.specs.Words.{Force, of_function, of_loop, as_one, under}
+use Rattle.program_steps.specs.Words.{Force, of_function, of_loop, as_one_unless, under}
 use Rattle.program_steps.specs.Functions.{any_of}
-use Rattle.call_words.specs.Sets.{is_in, truth_tree, only_under}
+use Rattle.call_words.specs.Sets.{is_in, truth_tree, only_under, refuses}
 use Rattle.walk_frames.specs.declared.readings.Labels.{Labels}
 use Rattle.walk_frames.specs.Labelled.{assumed_in}
 use Rattle.call_walks.specs.Claimed.{joined}
@@ -52,7 +52,7 @@ module _ (p : Facts) (texts : Texts) (entered : Labels) where
       inclusion_by plain b = inclusion_under plain b.assumes b.assigns
 
       abbrev pub inclusions : Contract → Force → List Tree
-      inclusions c of_function = as_one (inclusion_by true c.plain ++ joined (inclusion_by false) c.behaviors)
+      inclusions c of_function = as_one_unless (refuses callee c.plain.assigns) (inclusion_by true c.plain ++ joined (inclusion_by false) c.behaviors)
       inclusions c (of_loop ws d) = within ws ∷ []
 
       abbrev pub asked_inclusions : Contract → Force → List Tree

@@ -16,6 +16,7 @@ use Rattle.acsl_encode.specs.Readings.{Reading, Seen, nothing}
 use Rattle.program_steps.specs.Terms.{Texts}
 use Rattle.value_words.specs.OverSlots.{fill_term, leaf_reading}
 use Rattle.annotation_words.specs.Seen.{in_arguments, seen_over, result_in, common_with}
+use Rattle.wp_base.specs.declared.kinds.Kind.{Kind}
 
 -- by their numbers
 abbrev pub functions_in : List (Option CheckedFunction) → ℕ → Option (Function Steps)
@@ -51,14 +52,14 @@ module _ (p : Facts) (texts : Texts) (xs : List Variable) where
     called = texts.called;
   }
 
-  -- where it has returned; its result is in this slot
-  abbrev pub returned_over : (answer : ℕ) → (now before : Slots) → (arguments : List Tree) → acsl.Tree → Reading
-  returned_over i now before ts a = record {
+  -- where it has returned; its result is in this slot, of a kind
+  abbrev pub returned_over : (of_kind : Option Kind) → (answer : ℕ) → (now before : Slots) → (arguments : List Tree) → acsl.Tree → Reading
+  returned_over k i now before ts a = record {
     here = callee_over now ts;
     pre = callee_over before ts;
     post = callee_over now ts;
     loop_entry = callee_over before ts;
-    result = result_in now i;
+    result = result_in k now i;
     common = common_with p (texts.binders a);
     called = texts.called;
   }

@@ -26,6 +26,7 @@ use crate::changes::{any_of_kind, change_at, file_changes};
 use crate::claims::promised;
 use crate::readings::{entered, returned};
 use crate::stays::stays;
+use annotation_words::kind_given;
 use checked_trees::CheckedFunction;
 use program_trees::Contract;
 use qed_terms::Term;
@@ -146,7 +147,14 @@ pub(crate) fn know_promised<'a, T: Texts>(
     let now = slots_at(state, 0);
     let before = slots_at(state, 1);
     let entry = entered(callee.variables, before, arguments);
-    let back = returned(callee.variables, answer, now, before, arguments);
+    let back = returned(
+        callee.variables,
+        kind_given(callee.result),
+        answer,
+        now,
+        before,
+        arguments,
+    );
     let formulas = promised(alloc, frame.facts, texts, entry, back, callee.contract)?;
     know_all(formulas, state)?;
     Ok(())

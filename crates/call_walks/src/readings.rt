@@ -12,7 +12,7 @@ use annotation_words::{Locals, Seen, SlotAt};
 use core_trees::FunctionVariable;
 use qed_terms::Term;
 use walk_frames::Labels;
-use wp_base::List;
+use wp_base::{Kind, List};
 
 /// Where a function with these variables is entered, in a state with these slots.
 pub(crate) fn entered<'a>(
@@ -35,15 +35,16 @@ pub(crate) fn entered<'a>(
     }
 }
 
-/// Where it has returned; its result is in this slot.
+/// Where it has returned; its result is in this slot, of a kind if it is an integer.
 pub(crate) fn returned<'a>(
     variables: &'a List<FunctionVariable>,
+    kind: Option<Kind>,
     answer: usize,
     now: &'a [Term],
     before: &'a [Term],
     arguments: &'a [Term],
 ) -> Labels<'a>
-    ensures { (p : program.Facts) (texts : terms.Texts) (a : acsl.Tree) → reading_in p texts result a ≡ returned_over p texts (view_variables variables.now) answer (map term_tree now.now) (map term_tree before.now) (map term_tree arguments.now) a }
+    ensures { (p : program.Facts) (texts : terms.Texts) (a : acsl.Tree) → reading_in p texts result a ≡ returned_over p texts (view_variables variables.now) kind answer (map term_tree now.now) (map term_tree before.now) (map term_tree arguments.now) a }
 {
     let present = Seen {
         file: now,
@@ -61,6 +62,7 @@ pub(crate) fn returned<'a>(
         result: Some(SlotAt {
             slots: now,
             at: answer,
+            kind,
         }),
     }
 }

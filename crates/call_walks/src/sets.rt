@@ -1,6 +1,7 @@
 // Whether the sets of a function that is called lie in the set in force (ACSL 2.3.2).
 ghost use Rattle.std.specs.Prelude.{◌≡◌, ◌++◌, [], if◌then◌else◌, ℕ, List, false, true, map, IfOk, OnOk};
 ghost use Rattle.std.specs.List.{list_all};
+ghost use Rattle.std.specs.Option.{option_map};
 ghost use Rattle.acsl_trees.specs.Tree as acsl;
 ghost use Rattle.acsl_trees.specs.Tree.{view_tree, view_trees};
 ghost use Rattle.call_walks.specs.Claimed as spec_claims;
@@ -24,7 +25,7 @@ use qed_terms::Formula;
 use std::alloc::Global;
 use step_walks::State;
 use typed_prog::Variable;
-use walk_frames::{Force, Frame, Labels, Texts, as_one, assumed_in, claim_under, has_variable};
+use walk_frames::{Force, Frame, Labels, Texts, as_one_unless, assumed_in, claim_under, has_variable};
 use wp_base::{List, NoMemory};
 
 // ---- regions
@@ -252,6 +253,49 @@ fn push_inclusions<'a, T: Texts>(
     Ok(())
 }
 
+// No set, or one that doesn't lie in this one.
+fn lies_outside(around: &[Tree], assigns: &Option<List<Tree>>) -> bool
+    ensures { result ≡ words.lies_outside (view_trees around.now) (option_map view_trees assigns.now) }
+{
+    match assigns {
+        Some(regions) => !all_in(around, regions.as_slice()),
+        None => true,
+    }
+}
+
+fn is_unset(behavior: &Behavior) -> bool
+    ensures { result ≡ words.is_unset (view_behavior behavior.now).assigns }
+{
+    match &behavior.assigns {
+        Some(_) => false,
+        None => true,
+    }
+}
+
+fn are_unset(behaviors: &[Behavior]) -> bool
+    ensures { result ≡ list_all (λ b. words.is_unset b.assigns) (map view_behavior behaviors.now) }
+{
+    for behavior in behaviors {
+        if !is_unset(behavior) {
+            return false;
+        }
+    }
+    true
+}
+
+// No clause of the function that is called lies in this one, whatever its behaviors assume.
+fn refuses(contract: &Contract, assigns: &Option<List<Tree>>) -> bool
+    ensures { result ≡ words.refuses (view_contract contract.now) (option_map view_trees assigns.now) }
+{
+    match assigns {
+        Some(around) => {
+            lies_outside(around.as_slice(), &contract.plain.assigns)
+                && are_unset(contract.behaviors.as_slice())
+        }
+        None => false,
+    }
+}
+
 // In the sets of the function's clauses.
 fn within_clauses<'a, T: Texts>(
     alloc: Global,
@@ -273,7 +317,8 @@ fn within_clauses<'a, T: Texts>(
     push_inclusions(
         alloc, frame, texts, level, entered, contract, behaviors, state, &mut made,
     )?;
-    let one = as_one(alloc, made)?;
+    let refused = refuses(contract, &plain.assigns);
+    let one = as_one_unless(alloc, refused, made)?;
     Ok(one)
 }
 

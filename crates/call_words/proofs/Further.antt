@@ -7,6 +7,7 @@ use Rattle.typed_prog.specs.declared.operators.Variable.TheVariants as variables
 use Rattle.typed_prog.specs.Tree as t
 use Rattle.acsl_truth.specs.States as labelled
 use Rattle.qed_terms.specs.Meaning as sense
+use Rattle.qed_terms.specs.Meaning.{truth}
 use Rattle.qed_terms.specs.Tree.{Tree, false_tree}
 use Rattle.c_runs.specs.Program.{Behavior, Contract, Function, Facts}
 use Rattle.c_runs.specs.States.{Here}
@@ -14,6 +15,7 @@ use Rattle.c_runs.specs.Claims.{holds, is_assumed, in_state}
 use Rattle.core_checks.specs.Tree.{Steps}
 use Rattle.plain_states.specs.Slots.{State}
 use Rattle.plain_runs.specs.Fitting.{Shape}
+use Rattle.program_steps.specs.Leaves.{leaves_of}
 use Rattle.program_steps.specs.Temporaries.{Temporaries}
 use Rattle.program_steps.specs.Terms.{Texts, entry_reading, assumed_tree, has_variable}
 use Rattle.program_steps.specs.Words.{Force, of_function, of_loop, Point, under, lacks, missing_in, missing_all, missing, is_inside, write_trees}
@@ -22,7 +24,7 @@ use Rattle.program_steps.specs.Functions.{AllOf}
 use Rattle.program_steps.specs.Placed.{all_told, Placed}
 use Rattle.call_words.specs.Words.{one_further}
 use Rattle.call_words.specs.Fits.{CallerBehaviorFits, CallerFits}
-use Rattle.call_words.proofs.Tells.{AllTell, none_tell, more_tell, both_tell, all_as, under_tells, as_one_tells, truth_tells}
+use Rattle.call_words.proofs.Tells.{AllTell, none_tell, more_tell, both_tell, all_as, under_tells, unless_tells, truth_tells}
 use Rattle.call_words.proofs.Claims.{caller_assumes}
 
 module _ (m : sense.World) (p : Facts) (s : Shape) (texts : Texts) (g : Function Steps) (es : t.Values) (contract : Contract) (fits : CallerFits m p s texts g es contract) (w : labelled.World) where
@@ -57,14 +59,20 @@ module _ (m : sense.World) (p : Facts) (s : Shape) (texts : Texts) (g : Function
     all_missing = both_tell m sts (missing_in p s texts e true contract.plain x) (missing_all p s texts e contract.behaviors x) (not_lacking x contract.plain) (list_all (not_lacking x) contract.behaviors)
         (missing_tells true contract.plain fits.plain (λ e. ap (list_all (holds p w)) fits.assumes)) (missing_tell contract.behaviors fits.behaviors)
 
+  refused_so : (e : ℕ) (sts : List State) (x : code.Variable) → lacks contract.plain.assigns x ≡ true
+      → list_all (truth m (leaves_of sts)) (missing_in p s texts e true contract.plain x ++ missing_all p s texts e contract.behaviors x) ≡ false
+  refused_so e sts x h = ap (λ l. list_all (truth m (leaves_of sts)) ((if l then false_tree ∷ [] else []) ++ missing_all p s texts e contract.behaviors x)) h
+
   -- wherever it stands
   missing_same : (e d : ℕ) (sts sts' : List State) → SeenBy p s w sts e e e → SeenBy p s w sts' d d d → (x : code.Variable)
       → all_told m sts (missing p s texts e contract x) ≡ all_told m sts' (missing p s texts d contract x)
   missing_same e d sts sts' seen seen' (variables.Global x) =
       let b = not_lacking (variables.Global x) contract.plain && list_all (not_lacking (variables.Global x)) contract.behaviors in
-      as_one_tells m sts (missing_in p s texts e true contract.plain (variables.Global x) ++ missing_all p s texts e contract.behaviors (variables.Global x)) b (all_missing e sts seen (variables.Global x))
-      ∙ sym (as_one_tells m sts' (missing_in p s texts d true contract.plain (variables.Global x) ++ missing_all p s texts d contract.behaviors (variables.Global x)) b
-      (all_missing d sts' seen' (variables.Global x)))
+      let refused = lacks contract.plain.assigns (variables.Global x) in
+      unless_tells m sts refused (missing_in p s texts e true contract.plain (variables.Global x) ++ missing_all p s texts e contract.behaviors (variables.Global x)) b
+      (refused_so e sts (variables.Global x)) (all_missing e sts seen (variables.Global x))
+      ∙ sym (unless_tells m sts' refused (missing_in p s texts d true contract.plain (variables.Global x) ++ missing_all p s texts d contract.behaviors (variables.Global x)) b
+      (refused_so d sts' (variables.Global x)) (all_missing d sts' seen' (variables.Global x)))
   missing_same e d sts sts' seen seen' (variables.Local x) = refl
 
   module _ (olds : List State) (a b : State) (n e l : ℕ) (outs : List Temporaries) (seen : SeenBy p s w (a ∷ olds) (suc e) (suc e) (suc e)) where

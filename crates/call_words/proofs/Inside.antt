@@ -22,11 +22,12 @@ use Rattle.program_steps.specs.Standing.{SeenBy}
 use Rattle.program_steps.specs.Functions.{AllOf, SetFits}
 use Rattle.program_steps.specs.Placed.{all_told}
 use Rattle.program_steps.proofs.Granting.{all_append}
-use Rattle.call_words.specs.Sets.{is_in, truth_tree, only_under, callee_assumes, clause_in, clauses_in, included, included_in, included_in_all, included_by, unless_nothing, inclusion_trees}
+use Rattle.call_words.specs.Sets.{is_in, truth_tree, only_under, callee_assumes, clause_in, clauses_in, included, included_in, included_in_all, included_by, refuses, unless_nothing, inclusion_trees}
 use Rattle.call_words.specs.Fits.{SeenCall, FileSetFits, CalleeBehaviorFits, CalleeFits, CallerBehaviorFits, CallerFits}
 use Rattle.program_steps.specs.Carried.{GrantedBy}
-use Rattle.call_words.proofs.Tells.{any_append, Tells, AllTell, AnyTells, tells_as, truth_tells, only_tells, under_tells, no_tells, first_tells, either_tells, any_tells, none_tell, more_tell, both_tell, all_as, as_one_tells, one_tells}
+use Rattle.call_words.proofs.Tells.{any_append, Tells, AllTell, AnyTells, tells_as, truth_tells, only_tells, under_tells, no_tells, first_tells, either_tells, any_tells, none_tell, more_tell, both_tell, all_as, unless_tells, one_tells}
 use Rattle.call_words.proofs.Claims.{caller_assumes, callee_assumed}
+use Rattle.call_words.proofs.Refusing.{refused_so}
 use Rattle.call_words.proofs.Named.{names_own, HomesAre, all_in}
 
 module _ (m : sense.World) (p : Facts) (s : Shape) (texts : Texts) (g : Function Steps) (es : t.Values) (globals : list_all is_integer p.globals ≡ true) (sts : List State)
@@ -121,8 +122,10 @@ module _ (m : sense.World) (p : Facts) (s : Shape) (texts : Texts) (g : Function
         (list_all lets (granted_in p w0 n0 bs)) (own_tells false b fit.0 (λ e. absurd (false≢true e)) b.assigns fit.0.assigns) (owns_tell bs fit.1))
 
     function_told : all_told m sts (included_by p s texts g es e caller of_function) ≡ list_all lets (granted_in p w0 n0 (parts_of caller))
-    function_told = as_one_tells m sts (included_in p s texts g es e true caller.plain caller.plain.assigns ++ included_in_all p s texts g es e caller.behaviors)
+    function_told = unless_tells m sts (refuses g.contract caller.plain.assigns)
+        (included_in p s texts g es e true caller.plain caller.plain.assigns ++ included_in_all p s texts g es e caller.behaviors)
         (list_all lets (granted_in p w0 n0 (parts_of caller)))
+        (refused_so m p s texts g es sts e caller.plain caller.plain.assigns (included_in_all p s texts g es e caller.behaviors))
         (all_as m sts (included_in p s texts g es e true caller.plain caller.plain.assigns ++ included_in_all p s texts g es e caller.behaviors)
         (list_all lets (if is_assumed p w0 caller.plain then granted_by p w0 n0 0 caller.plain.assigns else []) && list_all lets (granted_in p w0 n0 caller.behaviors))
         (list_all lets (granted_in p w0 n0 (parts_of caller)))

@@ -3,6 +3,7 @@ mod Views
 mod Tells
 mod Claims
 mod Named
+mod Refusing
 mod Inside
 mod Further
 mod Changing

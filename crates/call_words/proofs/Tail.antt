@@ -39,7 +39,7 @@ use Rattle.walk_steps.specs.Run as seg
 use Rattle.walk_steps.proofs.Readings.{changes_then, knows_then, scope_way, remember_way}
 use Rattle.program_steps.specs.Leaves.{form, closed, leaves_of}
 use Rattle.program_steps.specs.Temporaries.{Temporaries, some_use, goal_uses, live}
-use Rattle.program_steps.specs.Terms.{Texts}
+use Rattle.program_steps.specs.Terms.{Texts, kind_given}
 use Rattle.program_steps.specs.Words.{Point}
 use Rattle.program_steps.specs.Standing.{StandsFor, Ends}
 use Rattle.program_steps.specs.Functions.{AllOf}
@@ -57,6 +57,8 @@ use Rattle.call_words.proofs.Changing.{with_values, with_length, with_value, wit
 use Rattle.call_words.proofs.Staying.{KeepsBy, allowed_keeps, stays_told, keeps_stay, stays_keep, plain_keeps, plain_fixed}
 use Rattle.call_words.proofs.Behind.{file_number, stands_behind, behind_world, behind_good, behind_cells, behind_call as world_behind}
 use Rattle.call_words.proofs.Answers.{ends_back, Answered, answered_length, answered_else, answer_places, then_answer, answer_then, ResultAt, given_both}
+use Rattle.acsl_encode.specs.Meaning.{IsOfKind}
+use Rattle.wp_base.specs.declared.kinds.CellKind.TheVariants as cell
 
 -- ---- what is known
 
@@ -133,10 +135,16 @@ module _ (m : sense.World) (q : Program Steps) (s : Shape) (texts : Texts) (cont
       record { here_is = v; pre_is = v; post_is = v; loop_entry_is = v; model = refl; structs = λ n. refl }
 
   -- a memory whose variables of the file have these slots, and a result that stands there
+  of_kind : (o : Option CellKind) (before b : State) → Answered m p s texts contract q o before b → IsOfKind p.model (kind_given o) (at b a)
+  of_kind None before b h = tt
+  of_kind (Some (cell.Of k)) before b h = h.1
+  of_kind (Some cell.Ptr) before b h = absurd h
+
   record AtEnd (u : Memory) (v : Value) (b : State) : Type 0 where
     good : IsGood p u
     cells : (x : ℕ) (y : Variable) → slice_get p.globals x ≡ Some y → u.cells (negsuc x) (pos 0) ≡ number (at b (value_slot x))
     answer : (r : CellKind) → g.result ≡ Some r → v ≡ number (at b a)
+    kind : IsOfKind p.model (kind_given g.result) (at b a)
 
   abbrev caller : Here
   caller = here_in p k vs mem g.contract []
@@ -147,7 +155,7 @@ module _ (m : sense.World) (q : Program Steps) (s : Shape) (texts : Texts) (cont
       let now = sees m p s setting i used c st stands (b ∷ st ∷ olds) 1 refl es fits.typed met texts g fits.count fits.kinds u b h.good h.cells in
       let before = (seen_before b).here_is in
       call_promises_told m p s texts (b ∷ st ∷ olds) g es entry (at_return p caller u v) (seen_before b)
-      (record { here_is = now; pre_is = before; post_is = now; loop_entry_is = before; result = h.answer; model = refl; structs = λ n. refl }) fits.callee
+      (record { here_is = now; pre_is = before; post_is = now; loop_entry_is = before; result = h.answer; result_fits = h.kind; model = refl; structs = λ n. refl }) fits.callee
 
   none_so : (o : Option Stop) (b : State) → o ≡ None → is_none m p s texts (b ∷ st ∷ olds) g es o ≡ true
   none_so None b h = refl
@@ -262,7 +270,7 @@ module _ (m : sense.World) (q : Program Steps) (s : Shape) (texts : Texts) (cont
         (λ j h differ. answered_else m p s texts contract q g.result one two filled.answered j differ ∙ with_behind n0 new st j h)
 
     known_told : all_told m (two ∷ st ∷ olds) (call_promises p s texts g es) ≡ true
-    known_told = promised_told u.memory v two (record { good = call.good; cells = two_cells; answer = filled.stands_so })
+    known_told = promised_told u.memory v two (record { good = call.good; cells = two_cells; answer = filled.stands_so; kind = of_kind g.result one two filled.answered })
         ∙ none_so (ensured p caller u.memory v g.contract) two call.promises
 
     forth_by : (n : ℕ) (o : Ending) → exec.result_to q no_deeper s.variables here to v (in_world c u) ≡ o → (e : End) × Seg olds n whole st e × EndsAt (places whole) n o e
@@ -315,7 +323,7 @@ module _ (m : sense.World) (q : Program Steps) (s : Shape) (texts : Texts) (cont
         let r = result_by g.result to fits.result answered in
         let good = behind_good p s setting.globals setting.integers c.world stands.good one one_fits in
         let promised : ensured p caller u.memory r.0 g.contract ≡ None = so_none (ensured p caller u.memory r.0 g.contract) two
-        (sym (promised_told u.memory r.0 two (record { good = good; cells = two_cells_back; answer = r.1.1.1 })) ∙ known) in
+        (sym (promised_told u.memory r.0 two (record { good = good; cells = two_cells_back; answer = r.1.1.1; kind = of_kind g.result one two answered })) ∙ known) in
         let call : BehindCall p k g vs c.world r.0 u =
         world_behind p s setting.globals setting.integers c.world stands.good one one_fits m texts g es fits.callee vs st stands.globals kept k r.0 r.1.1.0 promised in
         let two_stands = stands_behind p s setting.globals setting.integers i used c st stands u two

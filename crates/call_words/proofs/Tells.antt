@@ -8,7 +8,7 @@ use Rattle.qed_terms.specs.Tree.{Tree}
 use Rattle.acsl_encode.specs.Encode.{all_of}
 use Rattle.plain_states.specs.Slots.{State}
 use Rattle.program_steps.specs.Leaves.{is_closed, closed, leaves_of}
-use Rattle.program_steps.specs.Words.{as_one, under}
+use Rattle.program_steps.specs.Words.{as_one, as_one_unless, under}
 use Rattle.program_steps.specs.Functions.{any_of}
 use Rattle.program_steps.specs.Placed.{all_told}
 use Rattle.program_steps.proofs.Asking.{closed_told}
@@ -93,6 +93,10 @@ module _ (m : sense.World) (sts : List State) where
   pub as_one_tells : (fs : List Tree) (b : Bool) → AllTell fs b → all_told m sts (as_one fs) ≡ b
   as_one_tells [] b h = h.true_so
   as_one_tells (f ∷ fs) b h = one_tells (all_of (f ∷ fs)) b (all_tell (f ∷ fs) b h)
+
+  pub unless_tells : (refused : Bool) (fs : List Tree) (b : Bool) → (refused ≡ true → list_all (truth m env) fs ≡ false) → AllTell fs b → all_told m sts (as_one_unless refused fs) ≡ b
+  unless_tells true fs b none h = sym (none refl) ∙ h.true_so
+  unless_tells false fs b none h = as_one_tells fs b h
 
   -- ---- one of several
 

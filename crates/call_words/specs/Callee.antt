@@ -16,7 +16,7 @@ use Rattle.value_terms.specs.Terms.{terms_of}
 use Rattle.acsl_encode.specs.Readings as annotation
 use Rattle.acsl_encode.specs.Readings.{Slot, whole, absent, Seen, integer, nothing}
 use Rattle.program_steps.specs.Leaves.{leaf}
-use Rattle.program_steps.specs.Terms.{Texts, unused, unused_table, unused_memory, global_slot, common_of}
+use Rattle.program_steps.specs.Terms.{Texts, unused, unused_table, unused_memory, global_slot, common_of, kind_given}
 
 -- expressions of the caller, in the state of a level; in the present one this is its own reading
 abbrev pub reading_at : Facts → Shape → (level : ℕ) → Reading
@@ -72,7 +72,7 @@ module _ (p : Facts) (s : Shape) (texts : Texts) (g : Function Steps) (es : t.Va
     pre = callee_seen 1 1;
     post = callee_seen 0 1;
     loop_entry = callee_seen 1 1;
-    result = integer None (leaf 0 (answer_slot (sizes p s)));
+    result = integer (kind_given g.result) (leaf 0 (answer_slot (sizes p s)));
     common = common_of p s texts a;
     called = texts.called;
   }

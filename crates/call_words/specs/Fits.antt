@@ -33,10 +33,11 @@ use Rattle.value_terms.specs.Typed.{AreTyped, operand_kind}
 use Rattle.walk_steps.specs.State.{at_or}
 use Rattle.program_steps.specs.Leaves.{is_closed, leaves_of}
 use Rattle.program_steps.specs.Temporaries.{Temporaries, live}
-use Rattle.program_steps.specs.Terms.{Texts, reading}
+use Rattle.program_steps.specs.Terms.{Texts, reading, kind_given}
 use Rattle.program_steps.specs.Typed.{is_closed_item, scope_at, ClaimFits, MeasureFits, Takes}
 use Rattle.program_steps.specs.Functions.{AllOf, SetFits}
 use Rattle.call_words.specs.Callee.{argument, entered_at, returned_from}
+use Rattle.acsl_encode.specs.Meaning.{IsOfKind}
 
 -- ---- states that the function sees
 
@@ -70,6 +71,7 @@ module _ (m : sense.World) (p : Facts) (s : Shape) (texts : Texts) (g : Function
     pub post_is : CalleeSees p g w.post (at_or [] sts 0) (numbers_at sts 1)
     pub loop_entry_is : CalleeSees p g w.loop_entry (at_or [] sts 1) (numbers_at sts 1)
     pub result : (k : CellKind) → g.result ≡ Some k → w.result ≡ number (at (at_or [] sts 0) (answer_slot (sizes p s)))
+    pub result_fits : IsOfKind p.model (kind_given g.result) (at (at_or [] sts 0) (answer_slot (sizes p s)))
     pub model : p.model ≡ w.model
     pub structs : (n : ℕ) → struct_cells p n ≡ w.structs n
 

@@ -1,6 +1,6 @@
 -- Sets of a function that is called (ACSL 2.3.2): whether they lie in the set in force, and what a call changes. Only variables of the file count, since a
 -- function's clauses name none of its own.
-use Rattle.std.specs.Prelude.{ℕ, suc, Bool, true, false, not, if◌then◌else◌, List, [], ◌∷◌, ◌++◌, Option, Some, None}
+use Rattle.std.specs.Prelude.{ℕ, suc, Bool, true, false, not, ◌&&◌, if◌then◌else◌, List, [], ◌∷◌, ◌++◌, Option, Some, None}
 use Rattle.std.specs.List.{list_all}
 use Rattle.typed_prog.specs.Tree as t
 use Rattle.typed_prog.specs.declared.operators.Variable.TheVariants as variables
@@ -16,7 +16,7 @@ use Rattle.plain_runs.specs.Fitting.{Shape}
 use Rattle.walk_steps.specs.Step.{Change, keeps}
 use Rattle.walk_words.specs.Changes.{ranged}
 use Rattle.program_steps.specs.Terms.{Texts, entry_reading, assumed_tree, has_variable}
-use Rattle.program_steps.specs.Words.{Force, of_function, of_loop, Point, as_one, under, lacks}
+use Rattle.program_steps.specs.Words.{Force, of_function, of_loop, Point, as_one_unless, under, lacks}
 use Rattle.program_steps.specs.Functions.{any_of}
 use Rattle.call_words.specs.Callee.{entered_at}
 
@@ -35,6 +35,20 @@ truth_tree false = false_tree
 abbrev pub only_under : (is_plain : Bool) → (assumed f : Tree) → Tree
 only_under true a f = f
 only_under false a f = and_of (a ∷ f ∷ [])
+
+-- no set, or one that doesn't lie in this one
+abbrev pub lies_outside : (around : List acsl.Tree) → Option (List acsl.Tree) → Bool
+lies_outside ws None = true
+lies_outside ws (Some rs) = not (list_all (is_in ws) rs)
+
+abbrev pub is_unset : Option (List acsl.Tree) → Bool
+is_unset None = true
+is_unset (Some rs) = false
+
+-- A clause of the caller refuses the function that is called where none of its clauses lies inside, whatever its behaviors assume.
+abbrev pub refuses : (callee : Contract) → Option (List acsl.Tree) → Bool
+refuses callee None = false
+refuses callee (Some ws) = lies_outside ws callee.plain.assigns && list_all (λ b. is_unset b.assigns) callee.behaviors
 
 module _ (p : Facts) (s : Shape) (texts : Texts) (g : Function Steps) (es : t.Values) where
   -- what a behavior of it assumes, where it is entered in the state of this level
@@ -63,7 +77,7 @@ module _ (p : Facts) (s : Shape) (texts : Texts) (g : Function Steps) (es : t.Va
   included_in_all e (b ∷ bs) = included_in e false b b.assigns ++ included_in_all e bs
 
   abbrev pub included_by : (entry : ℕ) → (caller : Contract) → Force → List Tree
-  included_by e c of_function = as_one (included_in e true c.plain c.plain.assigns ++ included_in_all e c.behaviors)
+  included_by e c of_function = as_one_unless (refuses g.contract c.plain.assigns) (included_in e true c.plain c.plain.assigns ++ included_in_all e c.behaviors)
   included_by e c (of_loop ws d) = included ws ∷ []
 
   -- nothing is asked where the clause outside behaviors names nothing

@@ -25,7 +25,7 @@ use Rattle.walk_steps.specs.State.{at_or}
 use Rattle.program_steps.specs.Functions.{behavior_tree, ensure_check, ensure_checks, all_ensured}
 use Rattle.program_steps.specs.Leaves.{fill}
 use Rattle.program_steps.specs.Stops.{broken_place}
-use Rattle.program_steps.specs.Terms.{Texts, claim_tree, return_reading}
+use Rattle.program_steps.specs.Terms.{Texts, claim_tree, return_reading, kind_given}
 use Rattle.program_steps.specs.Words.{under}
 use Rattle.walk_frames.specs.Asked.{Written, at_place, written_check}
 use Rattle.walk_frames.proofs.Asking.{closed_is, filled_closed}
@@ -33,6 +33,7 @@ use Rattle.walk_frames.proofs.Closedness.{under_closed, assumed_closed, claim_cl
 use Rattle.walk_frames.proofs.Over.{under_filled}
 use Rattle.function_walks.specs.Ending.{written_checks}
 use Rattle.function_walks.proofs.Requiring.{flat, map_twice}
+use Rattle.wp_base.specs.declared.kinds.Kind.{Kind}
 
 -- ---- checks, one behind the other
 
@@ -43,22 +44,22 @@ all_written ss none one two cs ds n h k =
 -- ---- annotations where it returns
 
 module _ (p : Facts) (s : Shape) (called : (number : ℕ) → Option Called) (names : Spelled) where
-  pub return_same : (h e h' e' : Slots) (at : ℕ) → h ≡ h' → e ≡ e' → at ≡ result_slot (sizes p s)
+  pub return_same : (h e h' e' : Slots) (at : ℕ) (k : Option Kind) → h ≡ h' → e ≡ e' → at ≡ result_slot (sizes p s) → k ≡ kind_given s.result
       → (let over : Reading = record {
         here = slots_seen p s called names h e;
         pre = slots_seen p s called names e e;
         post = slots_seen p s called names h e;
         loop_entry = slots_seen p s called names e e;
-        result = result_in h at;
+        result = result_in k h at;
         common = common_with p names;
         called = called;
       } in over ≡ return_over p s called names h' e')
-  return_same h e h' e' at a b c = λ i. record {
+  return_same h e h' e' at k a b c d = λ i. record {
     here = slots_seen p s called names (a i) (b i);
     pre = slots_seen p s called names (b i) (b i);
     post = slots_seen p s called names (a i) (b i);
     loop_entry = slots_seen p s called names (b i) (b i);
-    result = result_in (a i) (c i);
+    result = result_in (d i) (a i) (c i);
     common = common_with p names;
     called = called;
   }

@@ -22,7 +22,7 @@ ghost use Rattle.walk_steps.specs.Step as step;
 ghost use Rattle.wp_base.specs.declared.kinds.Kind.{Kind};
 
 use acsl_trees::Tree;
-use annotation_words::{Locals, Seen, SlotAt};
+use annotation_words::{Locals, Seen, SlotAt, kind_given};
 use core_trees::Claim;
 use program_trees::Behavior;
 use qed_terms::Formula;
@@ -61,7 +61,11 @@ fn return_labels<'a>(frame: Frame<'a>, state: &'a State) -> Result<Labels<'a>, N
             file: before,
             locals: Locals::Slots(frame.variables, before),
         },
-        result: Some(SlotAt { slots: now, at }),
+        result: Some(SlotAt {
+            slots: now,
+            at,
+            kind: kind_given(frame.result),
+        }),
     })
 }
 

@@ -14,8 +14,8 @@ use Rattle.program_trees.specs.View.{view_behavior}
 use Rattle.program_steps.specs.Leaves.{fill}
 use Rattle.program_steps.specs.Terms.{Texts}
 use Rattle.program_steps.specs.Terms.{assumed_tree, entry_reading}
-use Rattle.program_steps.specs.Words.{as_one, under}
-use Rattle.walk_frames.proofs.Over.{as_one_filled, under_filled}
+use Rattle.program_steps.specs.Words.{as_one_unless, under}
+use Rattle.walk_frames.proofs.Over.{unless_filled, under_filled}
 use Rattle.loop_words.specs.Sets.{lacking_all, lacking_in, lacks_some}
 use Rattle.loop_walks.proofs.Lists.{one_more, all_done, map_both}
 
@@ -48,5 +48,6 @@ lacking_more ss p s texts e rs plain b lacks x t made new is so none h k =
     ap (map formula_tree) k ∙ map_push formula_tree made x ∙ ap (λ u. map formula_tree made ++ u ∷ []) (h ∙ ap (under plain (fill ss a)) none ∙ sym (under_filled ss plain a false_tree))
     ∙ ap (λ c. map formula_tree made ++ map (fill ss) (if c then under plain a false_tree ∷ [] else [])) (sym so ∙ is)
 
-pub clauses_joined : (ss : List Slots) (fs : List Tree) (made new : List Tree) → made ≡ map (fill ss) fs → new ≡ as_one made → new ≡ map (fill ss) (as_one fs)
-clauses_joined ss fs made new h push = push ∙ ap as_one h ∙ sym (as_one_filled ss fs)
+pub clauses_joined : (ss : List Slots) (fs : List Tree) (made new : List Tree) (refused is_refused : Bool) → refused ≡ is_refused → made ≡ map (fill ss) fs → new ≡ as_one_unless refused made
+    → new ≡ map (fill ss) (as_one_unless is_refused fs)
+clauses_joined ss fs made new refused is_refused is h push = push ∙ (λ i. as_one_unless (is i) (h i)) ∙ sym (unless_filled ss is_refused fs)

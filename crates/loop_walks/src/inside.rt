@@ -28,7 +28,7 @@ use std::alloc::Global;
 use step_walks::State;
 use typed_prog::Variable;
 use walk_frames::{
-    Force, Frame, Point, Texts, as_one, claim_under, has_variable, lacks, region_variable,
+    Force, Frame, Point, Texts, as_one_unless, claim_under, has_variable, lacks, region_variable,
 };
 use wp_base::{List, NoMemory};
 
@@ -186,10 +186,11 @@ fn in_body<'a, T: Texts>(
     regions: &[Tree],
     state: &State,
 ) -> Result<List<Formula>, NoMemory>
-    ensures { (k : ℕ → Kind) → IfOk result (λ made. map formula_tree made ≡ map (fill (states (view_state state.now))) (words.as_one (lacking_clauses (facts_in frame.entry) (shape_in frame.entry k) (T.text texts.now) level (view_contract frame.entry.contract.now) (view_trees regions.now)))) }
+    ensures { (k : ℕ → Kind) → IfOk result (λ made. map formula_tree made ≡ map (fill (states (view_state state.now))) (words.as_one_unless (spec.lacks_some (view_contract frame.entry.contract.now).plain.assigns (view_trees regions.now)) (lacking_clauses (facts_in frame.entry) (shape_in frame.entry k) (T.text texts.now) level (view_contract frame.entry.contract.now) (view_trees regions.now)))) }
 {
     let clauses = lacking(alloc, frame, texts, level, regions, state)?;
-    let made = as_one(alloc, clauses)?;
+    let refused = lacks_some(&frame.contract.plain.assigns, regions);
+    let made = as_one_unless(alloc, refused, clauses)?;
     Ok(made)
 }
 

@@ -1,5 +1,5 @@
 -- What the formulas of a contract's clauses say, at whatever level the function's entry is remembered.
-use Rattle.std.proofs.Common.{◌≡◌, ℕ, Bool, true, false, not, ◌&&◌, ◌||◌, if◌then◌else◌, List, [], ◌∷◌, ◌++◌, map, Option, refl, ap, ◌∙◌}
+use Rattle.std.proofs.Common.{◌≡◌, ℕ, Bool, true, false, not, ◌&&◌, ◌||◌, if◌then◌else◌, List, [], ◌∷◌, ◌++◌, map, Option, refl, sym, ap, ◌∙◌}
 use Rattle.std.specs.List.{list_all}
 use Rattle.typed_prog.specs.declared.operators.Variable.TheVariants as variables
 use Rattle.acsl_trees.specs.Tree as acsl
@@ -15,7 +15,7 @@ use Rattle.plain_runs.specs.Fitting.{Shape}
 use Rattle.walk_steps.specs.State.{at_or}
 use Rattle.program_steps.specs.Leaves.{is_closed, closed, leaves_of}
 use Rattle.program_steps.specs.Terms.{Texts, entry_reading, or_none, claim_tree, assumed_tree}
-use Rattle.program_steps.specs.Words.{of_function, as_one, under, lacks, missing_all, missing}
+use Rattle.program_steps.specs.Words.{of_function, as_one, as_one_unless, under, lacks, missing_all, missing}
 use Rattle.program_steps.specs.Standing.{SeenAs, SeenBy}
 use Rattle.program_steps.specs.Typed.{ClaimFits}
 use Rattle.program_steps.specs.Placed.{all_told}
@@ -63,6 +63,11 @@ module _ (m : sense.World) (p : Facts) (s : Shape) (texts : Texts) where
     as_one_tells [] b h = h.true_so
     as_one_tells (f ∷ fs) b h =
         and_so (truth m (leaves_of sts) (closed (all_of (f ∷ fs)))) ∙ closed_told m sts (all_of (f ∷ fs)) (all_closed (f ∷ fs) h.closed_so) ∙ all_so m (leaves_of sts) (f ∷ fs) ∙ h.true_so
+
+    unless_tells : (refused : Bool) (fs : List Tree) (b : Bool) → (refused ≡ true → list_all (truth m (leaves_of sts)) fs ≡ false) → AllTell fs b
+        → all_told m sts (as_one_unless refused fs) ≡ b
+    unless_tells true fs b none h = sym (none refl) ∙ h.true_so
+    unless_tells false fs b none h = as_one_tells fs b h
 
     module _ (w : labelled.World) (e : ℕ) (seen : SeenBy p s w sts e e e) where
       -- ---- what behaviors assume
@@ -127,8 +132,9 @@ module _ (m : sense.World) (p : Facts) (s : Shape) (texts : Texts) where
         all_clauses [] fits = none_tell
         all_clauses (b ∷ bs) fits = more_tell (lacking false b) (lacking_of bs) (lets b) (list_all lets bs) (clause_tells b fits.0) (all_clauses bs fits.1)
 
-        pub clauses_tell : (c : Contract) → AllOf AssumesFit c.behaviors → all_told m sts (as_one (lacking true c.plain ++ lacking_of c.behaviors)) ≡ clauses_let p w f c
-        clauses_tell c fits = as_one_tells (lacking true c.plain ++ lacking_of c.behaviors) (clauses_let p w f c)
+        pub clauses_tell : (c : Contract) → AllOf AssumesFit c.behaviors → all_told m sts (as_one_unless (f c.plain.assigns) (lacking true c.plain ++ lacking_of c.behaviors)) ≡ clauses_let p w f c
+        clauses_tell c fits = unless_tells (f c.plain.assigns) (lacking true c.plain ++ lacking_of c.behaviors) (clauses_let p w f c)
+            (λ refused. ap (λ l. list_all (truth m (leaves_of sts)) ((if l then false_tree ∷ [] else []) ++ lacking_of c.behaviors)) refused)
             (more_tell (lacking true c.plain) (lacking_of c.behaviors) (not (f c.plain.assigns)) (list_all lets c.behaviors) (plain_tells c.plain) (all_clauses c.behaviors fits))
 
       missing_is : (x : ℕ) (bs : List Behavior) → missing_all p s texts e bs (variables.Global x) ≡ lacking_of (λ o. lacks o (variables.Global x)) bs
@@ -143,12 +149,12 @@ module _ (m : sense.World) (p : Facts) (s : Shape) (texts : Texts) where
       pub missing_tells : (c : Contract) → AllOf AssumesFit c.behaviors → (x : ℕ)
           → all_told m sts (missing p s texts e c (variables.Global x)) ≡ clauses_let p w (λ o. lacks o (variables.Global x)) c
       missing_tells c fits x =
-          ap (λ fs. all_told m sts (as_one (lacking (λ o. lacks o (variables.Global x)) true c.plain ++ fs))) (missing_is x c.behaviors)
+          ap (λ fs. all_told m sts (as_one_unless (lacks c.plain.assigns (variables.Global x)) (lacking (λ o. lacks o (variables.Global x)) true c.plain ++ fs))) (missing_is x c.behaviors)
           ∙ clauses_tell (λ o. lacks o (variables.Global x)) c fits
 
       -- a loop's own set
       pub within_tells : (c : Contract) → AllOf AssumesFit c.behaviors → (rs : List acsl.Tree)
           → all_told m sts (within p s texts e c of_function rs) ≡ clauses_let p w (λ o. lacks_some o rs) c
       within_tells c fits rs =
-          ap (λ fs. all_told m sts (as_one (lacking (λ o. lacks_some o rs) true c.plain ++ fs))) (lacking_is rs c.behaviors)
+          ap (λ fs. all_told m sts (as_one_unless (lacks_some c.plain.assigns rs) (lacking (λ o. lacks_some o rs) true c.plain ++ fs))) (lacking_is rs c.behaviors)
           ∙ clauses_tell (λ o. lacks_some o rs) c fits

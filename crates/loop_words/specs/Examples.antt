@@ -11,7 +11,7 @@ use Rattle.acsl_trees.specs.Tree as acsl
 use Rattle.acsl_trees.specs.declared.heads.Content.TheVariants as content
 use Rattle.acsl_trees.specs.declared.heads.Head.TheVariants as head
 use Rattle.qed_terms.specs.Meaning as sense
-use Rattle.qed_terms.specs.Tree.{Tree, num, false_tree, less, equal, and_of, imp_of}
+use Rattle.qed_terms.specs.Tree.{Tree, num, false_tree, less, equal, imp_of}
 use Rattle.c_runs.specs.Program.{Variable, Contract, Loop, Facts}
 use Rattle.core_checks.specs.Tree.{Steps, variable as to_variable, call, end, then_}
 use Rattle.plain_runs.specs.Fitting.{Shape}
@@ -112,7 +112,7 @@ pub record Inside : Type 0 where
   pub by_plain : inside_trees file function texts (clauses (Some (g_region ∷ [])) None) (under of_function) (with_set (Some (g_region ∷ h_region ∷ x_region ∷ []))) ≡ false_tree ∷ []
   pub by_behavior : inside_trees file function texts (clauses None (Some [])) (under of_function) (with_set (Some (g_region ∷ h_region ∷ x_region ∷ [])))
       ≡ imp_of (positive 1) false_tree ∷ []
-  pub by_both : inside_trees file function texts (clauses (Some []) (Some [])) (under of_function) (with_set (Some (g_region ∷ []))) ≡ and_of (false_tree ∷ imp_of (positive 1) false_tree ∷ []) ∷ []
+  pub by_both : inside_trees file function texts (clauses (Some []) (Some [])) (under of_function) (with_set (Some (g_region ∷ []))) ≡ false_tree ∷ []
   -- in a loop that finds one variable declared, and names g
   pub in_loop : inside_trees file function texts (clauses None None) (under (of_loop (g_region ∷ []) 1)) (with_set (Some (g_region ∷ y_region ∷ []))) ≡ []
   pub out_of_loop : inside_trees file function texts (clauses None None) (under (of_loop (g_region ∷ []) 1)) (with_set (Some (g_region ∷ x_region ∷ []))) ≡ false_tree ∷ []

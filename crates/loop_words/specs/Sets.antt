@@ -11,7 +11,7 @@ use Rattle.core_checks.specs.Tree.{Steps}
 use Rattle.plain_runs.specs.Fitting.{Shape}
 use Rattle.plain_runs.specs.Kept.{some_sets}
 use Rattle.program_steps.specs.Terms.{Texts, entry_reading, assumed_tree, has_variable}
-use Rattle.program_steps.specs.Words.{Force, of_function, of_loop, Point, as_one, under, lacks, is_inside}
+use Rattle.program_steps.specs.Words.{Force, of_function, of_loop, Point, as_one_unless, under, lacks, is_inside}
 
 -- ---- regions that are variables
 
@@ -47,7 +47,7 @@ module _ (p : Facts) (s : Shape) (texts : Texts) where
   lacking_all e (b ∷ bs) rs = lacking_in e false b rs ++ lacking_all e bs rs
 
   abbrev pub within : (entry : ℕ) → Contract → Force → (regions : List acsl.Tree) → List Tree
-  within e c of_function rs = as_one (lacking_in e true c.plain rs ++ lacking_all e c.behaviors rs)
+  within e c of_function rs = as_one_unless (lacks_some c.plain.assigns rs) (lacking_in e true c.plain rs ++ lacking_all e c.behaviors rs)
   within e c (of_loop ws d) rs = if some_outside ws d rs then false_tree ∷ [] else []
 
   -- a loop without a set of its own asks for nothing

@@ -1,5 +1,5 @@
 -- Annotations of a function over plain integers are what its word asks for.
-use Rattle.std.proofs.Common.{◌≡◌, ℕ, Bool, true, false, List, [], refl, sym, ap, ◌∙◌}
+use Rattle.std.proofs.Common.{◌≡◌, ℕ, Bool, true, false, List, [], refl, sym, ap, ◌∙◌, subst}
 use Rattle.std.specs.Prelude.{Option, Some, None}
 use Rattle.std.specs.Option.{is_some}
 use Rattle.std.proofs.lemmas.Bool.{false≢true}
@@ -14,12 +14,12 @@ use Rattle.c_runs.specs.Program.{Facts}
 use Rattle.plain_states.specs.Slots.{State, at, result_slot}
 use Rattle.program_steps.specs.Told.{Shape, sizes}
 use Rattle.acsl_encode.specs.Readings.{Terms, integer, nothing}
-use Rattle.acsl_encode.specs.Meaning.{SeenStands, Stands, Means}
+use Rattle.acsl_encode.specs.Meaning.{SeenStands, Stands, Means, IsOfKind}
 use Rattle.acsl_encode.specs.WellFormed.{TermsFit}
 use Rattle.acsl_encode.specs.Laws.{TermsUnmarked}
 use Rattle.walk_steps.specs.State.{at_or}
 use Rattle.program_steps.specs.Leaves.{leaf, leaves_of}
-use Rattle.program_steps.specs.Terms.{Texts, seen_at, common_of, body_reading, return_reading}
+use Rattle.program_steps.specs.Terms.{Texts, seen_at, common_of, body_reading, return_reading, kind_given}
 use Rattle.program_steps.specs.Standing.{SeenAs, SeenBy}
 use Rattle.program_steps.specs.Placed.{InSetting}
 use Rattle.program_steps.specs.Typed.{ClaimFits, MeasureFits}
@@ -125,7 +125,7 @@ module _ (m : sense.World) (p : Facts) (s : Shape) (texts : Texts) (setting : In
   -- ---- promises
 
   abbrev result_for : Option CellKind → Terms
-  result_for (Some k) = integer None (leaf 0 (result_slot (sizes p s)))
+  result_for (Some k) = integer (kind_given (Some k)) (leaf 0 (result_slot (sizes p s)))
   result_for None = nothing
 
   result_fits : (o : Option CellKind) → TermsFit (result_for o)
@@ -136,7 +136,7 @@ module _ (m : sense.World) (p : Facts) (s : Shape) (texts : Texts) (setting : In
   result_unmarked (Some k) = leaf_unmarked 0 (result_slot (sizes p s))
   result_unmarked None = tt
 
-  result_is : (o : Option CellKind) → is_some o ≡ true → integer None (leaf 0 (result_slot (sizes p s))) ≡ result_for o
+  result_is : (o : Option CellKind) → is_some o ≡ true → integer (kind_given o) (leaf 0 (result_slot (sizes p s))) ≡ result_for o
   result_is (Some k) e = refl
   result_is None e = absurd (false≢true e)
 
@@ -184,12 +184,14 @@ module _ (m : sense.World) (p : Facts) (s : Shape) (texts : Texts) (setting : In
 
   result_stands : (a : acsl.Tree) (w : labelled.World) (sts : List State) → SeenReturn p s w sts
       → Means m (common_of p s texts a) (leaves_of sts) (result_for s.result) w.result
-  result_stands a w sts seen = by s.result seen.result
+  result_stands a w sts seen = by s.result seen.result seen.result_fits
     where
       by : (o : Option CellKind) → ((k : CellKind) → o ≡ Some k → w.result ≡ number (at (at_or [] sts 0) (result_slot (sizes p s))))
-          → Means m (common_of p s texts a) (leaves_of sts) (result_for o) w.result
-      by (Some k) h = (h k refl ∙ ap number (sym (leaf_value m sts 0 (result_slot (sizes p s)))), tt)
-      by None h = tt
+          → IsOfKind p.model (kind_given o) (at (at_or [] sts 0) (result_slot (sizes p s))) → Means m (common_of p s texts a) (leaves_of sts) (result_for o) w.result
+      by (Some k) h fits =
+          let is = sym (leaf_value m sts 0 (result_slot (sizes p s))) in
+          (h k refl ∙ ap number is, subst (IsOfKind p.model (kind_given (Some k))) is fits)
+      by None h fits = tt
 
   return_stands : (a : acsl.Tree) (w : labelled.World) (sts : List State) → SeenReturn p s w sts
       → Stands m (with_result (result_for s.result) (return_reading p s texts 1 a)) (leaves_of sts) w

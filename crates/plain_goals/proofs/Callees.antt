@@ -1,5 +1,5 @@
 -- Contracts of functions that are called are what calls ask for, over the terms of the arguments.
-use Rattle.std.proofs.Common.{◌≡◌, ℕ, true, false, ◌&&◌, List, [], ◌∷◌, refl, sym, ap, ◌∙◌, arith}
+use Rattle.std.proofs.Common.{◌≡◌, ℕ, true, false, ◌&&◌, List, [], ◌∷◌, refl, sym, ap, ◌∙◌, arith, subst}
 use Rattle.std.specs.Prelude.{Option, Some, None}
 use Rattle.std.specs.Option.{is_some}
 use Rattle.std.specs.List.{list_all}
@@ -25,10 +25,10 @@ use Rattle.value_terms.specs.Readings as readings
 use Rattle.value_terms.specs.Readings.{number_term, term_at}
 use Rattle.value_terms.proofs.Places.{operands_are_well_formed}
 use Rattle.acsl_encode.specs.Readings.{Terms, integer, nothing}
-use Rattle.acsl_encode.specs.Meaning.{Means}
+use Rattle.acsl_encode.specs.Meaning.{Means, IsOfKind}
 use Rattle.walk_steps.specs.State.{at_or}
 use Rattle.program_steps.specs.Leaves.{leaf, is_closed, leaves_of}
-use Rattle.program_steps.specs.Terms.{Texts, common_of}
+use Rattle.program_steps.specs.Terms.{Texts, common_of, kind_given}
 use Rattle.program_steps.specs.Placed.{InSetting}
 use Rattle.program_steps.specs.Functions.{AllOf, IsKnown, RegionFits, SetFits}
 use Rattle.program_steps.proofs.Listing.{leaf_value}
@@ -162,7 +162,7 @@ module _ (m : sense.World) (p : Facts) (s : Shape) (texts : Texts) (setting : In
   -- ---- promises
 
   abbrev answer : Terms
-  answer = integer None (leaf 0 (answer_slot (sizes p s)))
+  answer = integer (kind_given g.result) (leaf 0 (answer_slot (sizes p s)))
 
   abbrev given_by : Option CellKind → Terms
   given_by (Some k) = answer
@@ -189,9 +189,12 @@ module _ (m : sense.World) (p : Facts) (s : Shape) (texts : Texts) (setting : In
   }
 
   result_means : (o : Option CellKind) (a : acsl.Tree) (w : labelled.World) (sts : List State)
-      → ((k : CellKind) → o ≡ Some k → w.result ≡ number (at (at_or [] sts 0) (answer_slot (sizes p s)))) → Means m (common_of p s texts a) (leaves_of sts) (given_by o) w.result
-  result_means (Some k) a w sts h = (h k refl ∙ ap number (sym (leaf_value m sts 0 (answer_slot (sizes p s)))), tt)
-  result_means None a w sts h = tt
+      → ((k : CellKind) → o ≡ Some k → w.result ≡ number (at (at_or [] sts 0) (answer_slot (sizes p s))))
+      → IsOfKind p.model (kind_given g.result) (at (at_or [] sts 0) (answer_slot (sizes p s))) → Means m (common_of p s texts a) (leaves_of sts) (given_by o) w.result
+  result_means (Some k) a w sts h fits =
+      let is = sym (leaf_value m sts 0 (answer_slot (sizes p s))) in
+      (h k refl ∙ ap number is, subst (IsOfKind p.model (kind_given g.result)) is fits)
+  result_means None a w sts h fits = tt
 
   promise_fits : (a : acsl.Tree) → is_claim p texts g.variables (is_some g.result) a ≡ true → PromiseFits m p s texts g es a
   promise_fits a e =
@@ -206,7 +209,7 @@ module _ (m : sense.World) (p : Facts) (s : Shape) (texts : Texts) (setting : In
           pre_is = sees 1 1 w.pre sts h.pre_is;
           post_is = sees 0 1 w.post sts h.post_is;
           loop_entry_is = sees 1 1 w.loop_entry sts h.loop_entry_is;
-          result = result_means g.result a w sts h.result;
+          result = result_means g.result a w sts h.result h.result_fits;
           model = h.model;
           structs = h.structs;
         });

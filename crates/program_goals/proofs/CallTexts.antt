@@ -41,11 +41,11 @@ use Rattle.program_steps.specs.Words.{Force, of_function, of_loop, Point, under,
 use Rattle.program_steps.specs.Staying.{stay_of, stays_from, all_stay}
 use Rattle.program_steps.proofs.Starting.{leaf_closed}
 use Rattle.call_words.specs.Callee.{reading_at, terms_at, argument, param_slot, callee_seen, entered_at, returned_from}
-use Rattle.call_words.specs.Sets.{is_in, truth_tree, only_under, callee_assumes, clause_in, clauses_in, included, included_in, included_in_all, included_by, unless_nothing, inclusion_trees, may_differ, file_changes}
+use Rattle.call_words.specs.Sets.{is_in, truth_tree, only_under, callee_assumes, clause_in, clauses_in, included, included_in, included_in_all, included_by, refuses, unless_nothing, inclusion_trees, may_differ, file_changes}
 use Rattle.call_words.specs.Words.{stay_trees, one_further, change_at, entry_claim, required_trees, all_required, call_requires, lower_by, promise, promised_trees, all_promised, call_promises, answer_step, answer_term, placed_in, received, behind_call, call_by, call_word}
 use Rattle.program_goals.specs.Texts.{TextsFit}
 use Rattle.program_goals.proofs.Names.{and_both, leaf_is_int, binder_is_int}
-use Rattle.program_goals.proofs.Formulas.{more_formulas, one_formula, under_fits, and_fits, any_of_fits, global_fits, claim_fits, assumed_fits, entry_fits, body_fits, writes_fit}
+use Rattle.program_goals.proofs.Formulas.{more_formulas, refused_fits, under_fits, and_fits, any_of_fits, global_fits, claim_fits, assumed_fits, entry_fits, body_fits, writes_fit}
 use Rattle.program_goals.proofs.Writes.{Fills, number_writes, asks_write, knows_write, set_writes, values_write}
 use Rattle.program_goals.proofs.Arguments.{given_int, terms_plain}
 
@@ -184,7 +184,7 @@ module _ (p : Facts) (s : Shape) where
 
     included_by_fits : (e : ℕ) (c : Contract) (w : Force) → AllFormulas (included_by p s texts g es e c w)
     included_by_fits e c of_function =
-        one_formula (included_in p s texts g es e true c.plain c.plain.assigns ++ included_in_all p s texts g es e c.behaviors)
+        refused_fits (refuses g.contract c.plain.assigns) (included_in p s texts g es e true c.plain c.plain.assigns ++ included_in_all p s texts g es e c.behaviors)
         (more_formulas (included_in p s texts g es e true c.plain c.plain.assigns) _ (included_in_fits e true c.plain c.plain.assigns) (included_all_fit e c.behaviors))
     included_by_fits e c (of_loop ws d) = (included_fits ws, tt)
 

@@ -22,7 +22,7 @@ use Rattle.acsl_encode.proofs.Fitting.{AllFormulas, all_of_fits, two_fit}
 use Rattle.acsl_encode.proofs.Fitted.{formulas_fit}
 use Rattle.program_steps.specs.Leaves.{leaf}
 use Rattle.program_steps.specs.Terms.{Texts, reading, global_slot, local_slot, seen_at, body_reading, entry_reading, return_reading, or_none, claim_tree, assumed_tree, has_variable}
-use Rattle.program_steps.specs.Words.{Force, of_function, of_loop, Point, as_one, under, lacks, missing_in, missing_all, missing, is_inside, write_trees}
+use Rattle.program_steps.specs.Words.{Force, of_function, of_loop, Point, as_one, as_one_unless, under, lacks, missing_in, missing_all, missing, is_inside, write_trees}
 use Rattle.program_steps.specs.Functions.{any_of, not_both, no_two, behavior_tree, named_tree, named_trees}
 use Rattle.program_steps.specs.Starting.{range_trees, file_ranges, param_ranges, start_claim, start_assumed, required_trees, all_required, start_trees}
 use Rattle.program_goals.specs.Texts.{TextsFit}
@@ -34,9 +34,13 @@ pub more_formulas : (fs gs : List Tree) → AllFormulas fs → AllFormulas gs �
 more_formulas [] gs h k = k
 more_formulas (f ∷ fs) gs h k = (h.0, more_formulas fs gs h.1 k)
 
-pub one_formula : (fs : List Tree) → AllFormulas fs → AllFormulas (as_one fs)
+one_formula : (fs : List Tree) → AllFormulas fs → AllFormulas (as_one fs)
 one_formula [] h = tt
 one_formula (f ∷ fs) h = (all_of_fits (f ∷ fs) h, tt)
+
+pub refused_fits : (refused : Bool) (fs : List Tree) → AllFormulas fs → AllFormulas (as_one_unless refused fs)
+refused_fits true fs h = (refl, tt)
+refused_fits false fs h = one_formula fs h
 
 pub under_fits : (plain : Bool) (a f : Tree) → IsFormula a → IsFormula f → IsFormula (under plain a f)
 under_fits true a f h k = k
@@ -151,7 +155,7 @@ module _ (p : Facts) (s : Shape) where
 
     missing_fits : (e : ℕ) (c : Contract) (x : Variable) → AllFormulas (missing p s texts e c x)
     missing_fits e c (variables.Global x) =
-        one_formula (missing_in p s texts e true c.plain (variables.Global x) ++ missing_all p s texts e c.behaviors (variables.Global x))
+        refused_fits (lacks c.plain.assigns (variables.Global x)) (missing_in p s texts e true c.plain (variables.Global x) ++ missing_all p s texts e c.behaviors (variables.Global x))
         (more_formulas (missing_in p s texts e true c.plain (variables.Global x)) _ (missing_in_fits e true c.plain (variables.Global x)) (missing_all_fits e c.behaviors (variables.Global x)))
     missing_fits e c (variables.Local x) = tt
 

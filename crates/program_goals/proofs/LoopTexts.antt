@@ -29,7 +29,7 @@ use Rattle.loop_words.specs.Sets.{lacks_some, some_outside, lacking_in, lacking_
 use Rattle.loop_words.specs.Words.{value_change, flag_change, file_list, local_list, assumed_at, stay_trees, head_reading, end_reading, before_reading, measure_tree, head_tree, entry_check, kept_check, variant_checks, loop_word}
 use Rattle.program_goals.specs.Texts.{TextsFit}
 use Rattle.program_goals.proofs.Names.{and_both, leaf_is_int}
-use Rattle.program_goals.proofs.Formulas.{more_formulas, one_formula, under_fits, body_fits, claim_fits, entry_fits}
+use Rattle.program_goals.proofs.Formulas.{more_formulas, refused_fits, under_fits, body_fits, claim_fits, entry_fits}
 use Rattle.program_goals.proofs.Writes.{Fills, form_writes, asks_write, knows_write, checks_both}
 
 -- ---- formulas
@@ -51,7 +51,7 @@ module _ (p : Facts) (s : Shape) (texts : Texts) (named : TextsFit texts) where
 
   within_fits : (e : ℕ) (c : Contract) (w : Force) (rs : List acsl.Tree) → AllFormulas (within p s texts e c w rs)
   within_fits e c of_function rs =
-      one_formula (lacking_in p s texts e true c.plain rs ++ lacking_all p s texts e c.behaviors rs)
+      refused_fits (lacks_some c.plain.assigns rs) (lacking_in p s texts e true c.plain rs ++ lacking_all p s texts e c.behaviors rs)
       (more_formulas (lacking_in p s texts e true c.plain rs) _ (lacking_fits e true c.plain rs) (lacking_all_fits e c.behaviors rs))
   within_fits e c (of_loop ws d) rs = false_fits (some_outside p s texts ws d rs)
 

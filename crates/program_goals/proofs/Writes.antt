@@ -161,7 +161,8 @@ module _ (Term Formula : Tree → Type 0) (fills : Fills Term Formula) (m : sens
         step_writes (core.around ss) i pt f fits = steps_write ss i (in_block f pt) f fits
         step_writes (core.exit k) i pt f fits = tt
         step_writes (core.give cs None) i pt f fits = tt
-        step_writes (core.give cs (Some e)) i pt f fits = (value_writes e, (number_writes (word.term_in m p s texts contract others e) (term_is e) fits.2.term, tt))
+        step_writes (core.give cs (Some e)) i pt f fits =
+            (value_writes e, (number_writes (word.term_in m p s texts contract others e) (term_is e) fits.2.term, (drop_writes (sizes p s) s.temporaries _, tt)))
         step_writes (core.claim c) i pt f fits =
             (form_writes (claim_tree p s texts (body_reading p s texts 0 (suc pt.entry) (suc pt.loop_entry)) c.what) (claim_fits p s texts named (body_reading p s texts 0 (suc pt.entry) (suc pt.loop_entry)) c.what (body_fits p s texts named 0 (suc pt.entry) (suc pt.loop_entry) c.what)), tt)
         step_writes (core.scope ys ss) i pt f fits = (opens_write s (sizes p s) ys, steps_write ss (with_names ys i) pt f fits.1)

@@ -10,7 +10,8 @@ use Rattle.core_runs.specs.Run.{CoreWorld, Ending}
 use Rattle.core_checks.specs.Tree.{Steps}
 use Rattle.segments.specs.Segments as segment
 use Rattle.segments.specs.Segments.{BlockEnds, Leaves, by_exit, by_return, by_stop}
-use Rattle.plain_states.specs.Slots.{State, temp_slot}
+use Rattle.plain_states.specs.Slots.{State, at, result_slot, temp_slot}
+use Rattle.plain_states.proofs.Lists.{put_elsewhere}
 use Rattle.goal_segments.specs.Told.{Shape, sizes}
 use Rattle.walk_steps.specs.State as walk
 use Rattle.walk_steps.specs.Forms.{Place}
@@ -20,7 +21,7 @@ use Rattle.walk_steps.specs.Run.{End, goes_on, leaves, fails, out, Seg}
 use Rattle.walk_steps.specs.Run as seg
 use Rattle.walk_steps.proofs.Readings.{seq_ways, set_way}
 use Rattle.program_steps.specs.Leaves.{number as number_of}
-use Rattle.program_steps.specs.Temporaries.{Temporaries}
+use Rattle.program_steps.specs.Temporaries.{Temporaries, no_temporaries}
 use Rattle.program_steps.specs.Terms.{Texts}
 use Rattle.program_steps.specs.Words as word
 use Rattle.program_steps.specs.Words.{Others, drop}
@@ -129,6 +130,7 @@ module _ (m : sense.World) (q : Program Steps) (s : Shape) (texts : Texts) (cont
     pub runs : (n : ℕ) → Seg olds n b st (goes_on state)
     pub only : (n : ℕ) (e : End) → Seg olds n b st e → goes_on state ≡ e
     pub stands : StandsFor p s t0 i g c state
+    pub result : at state (result_slot (sizes p s)) ≡ at st (result_slot (sizes p s))
 
   drops_more : (i : ℕ → Bool) (g : Temporaries) (c : CoreWorld) (olds : List State) (a b : Step) (st : State) → (r : Drops i g c olds a st) → Drops i g c olds b r.state
       → Drops i g c olds (step.seq a b) st
@@ -137,6 +139,7 @@ module _ (m : sense.World) (q : Program Steps) (s : Shape) (texts : Texts) (cont
     runs = λ n. seg.goes_both (r.runs n) (x.runs (n + count a));
     only = λ n e k. by n e (seq_ways k);
     stands = x.stands;
+    result = x.result ∙ r.result;
   }
     where
       by : (n : ℕ) (e : End) → (seg.IsOver e × Seg olds n a st e) ⊎ ((mid : State) × Seg olds n a st (goes_on mid) × Seg olds (n + count a) b mid e) → goes_on x.state ≡ e
@@ -145,7 +148,7 @@ module _ (m : sense.World) (q : Program Steps) (s : Shape) (texts : Texts) (cont
 
   drops : (i : ℕ → Bool) (g : Temporaries) (c : CoreWorld) (olds : List State) (h : Temporaries) → ((j : ℕ) → h j ≡ true → g j ≡ true → ⊥) → (k : ℕ) (st : State)
       → StandsFor p s t0 i g c st → Drops i g c olds (drop m (sizes p s) k h) st
-  drops i g c olds h unused zero st stands = record { state = st; runs = λ n. seg.skips; only = λ n e k. skips e k; stands = stands } where
+  drops i g c olds h unused zero st stands = record { state = st; runs = λ n. seg.skips; only = λ n e k. skips e k; stands = stands; result = refl } where
     skips : {n : ℕ} (e : End) → Seg olds n step.skip st e → goes_on st ≡ e
     skips _ seg.skips = refl
   drops i g c olds h unused (suc k) st stands =
@@ -165,8 +168,10 @@ module _ (m : sense.World) (q : Program Steps) (s : Shape) (texts : Texts) (cont
         stands = subst (StandsFor p s t0 i g c) (sym (put_same st (temp_slot (sizes p s) k) (pos 0)))
             (slot_set p s setting.globals setting.integers i g c st stands g (temp_slot (sizes p s) k) (pos 0) (omega arith) (λ j r. r)
             (λ j r same. unused k e (ap g (let d : k ≡ j = omega (arith, same) in d) ∙ r)));
+        result = ap (λ a. at a (result_slot (sizes p s))) (put_same st (temp_slot (sizes p s) k) (pos 0))
+            ∙ put_elsewhere (pos 0) st (temp_slot (sizes p s) k) (result_slot (sizes p s)) (pos 0) (λ same. omega (arith, same));
       }
-      one st stands false e = record { state = st; runs = λ n. seg.skips; only = λ n x r. skips x r; stands = stands }
+      one st stands false e = record { state = st; runs = λ n. seg.skips; only = λ n x r. skips x r; stands = stands; result = refl }
 
   pub dropped : (i : ℕ → Bool) (f g : Temporaries) (c : CoreWorld) (olds : List State) (st : State) → StandsFor p s t0 i g c st
       → Drops i g c olds (word.dropped m p s texts contract others f g) st
@@ -175,6 +180,10 @@ module _ (m : sense.World) (q : Program Steps) (s : Shape) (texts : Texts) (cont
     by true true h k = false≢true h
     by true false h k = false≢true k
     by false b h k = false≢true h
+
+  pub all_dropped : (i : ℕ → Bool) (c : CoreWorld) (olds : List State) (st : State) → StandsFor p s t0 i no_temporaries c st
+      → Drops i no_temporaries c olds (word.all_dropped m p s texts contract others) st
+  all_dropped i c olds st stands = drops i no_temporaries c olds (λ n. true) (λ j h k. false≢true k) s.temporaries st stands
 
   -- ---- behind temporaries that are dropped
 

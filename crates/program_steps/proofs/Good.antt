@@ -95,7 +95,8 @@ module _ (m : sense.World) (p : Facts) (s : Shape) (texts : Texts) (contract : C
     step_good (core.around ss) pt f = steps_good ss (in_block f pt) f
     step_good (core.exit k) pt f = tt
     step_good (core.give cs None) pt f = tt
-    step_good (core.give cs (Some e)) pt f = (items_good m (word_of p s.variables (reading p s) e), (good_number m (word.term_in m p s texts contract others e), tt))
+    step_good (core.give cs (Some e)) pt f =
+        (items_good m (word_of p s.variables (reading p s) e), (good_number m (word.term_in m p s texts contract others e), (drop_good m (sizes p s) s.temporaries _, tt)))
     step_good (core.claim c) pt f = (good_form m (claim_tree p s texts (body_reading p s texts 0 (suc pt.entry) (suc pt.loop_entry)) c.what), tt)
     step_good (core.scope ys ss) pt f = (opens_good m s (sizes p s) ys, steps_good ss pt f)
 

@@ -32,7 +32,7 @@ use Rattle.goal_segments.specs.Told.{Shape}
 use Rattle.goal_segments.proofs.Told.{all_plain}
 use Rattle.program_steps.specs.Leaves.{is_closed, closed, leaves_of}
 use Rattle.program_steps.specs.Terms.{Texts, is_region_of, same_variable, has_variable}
-use Rattle.program_steps.specs.Words.{lacks, under, as_one, missing_in, missing_all}
+use Rattle.program_steps.specs.Words.{lacks, under, as_one, as_one_unless, missing_in, missing_all}
 use Rattle.program_steps.specs.Standing.{SeenAs, SeenBy}
 use Rattle.program_steps.specs.Placed.{all_told}
 use Rattle.program_steps.specs.Functions.{AllOf, IsKnown, RegionFits, SetFits, BehaviorFits, behavior_tree}
@@ -170,13 +170,19 @@ module _ (m : sense.World) (p : Facts) (s : Shape) (texts : Texts) (globals : li
     one_so (f ∷ fs) h =
         and_so (truth m (leaves_of sts) (closed (encode.all_of (f ∷ fs)))) ∙ closed_told m sts (encode.all_of (f ∷ fs)) (all_closed (f ∷ fs) h) ∙ all_so m (leaves_of sts) (f ∷ fs) ∙ sym (each (f ∷ fs) h)
 
+    unless_so : (refused : Bool) (fs : List Tree) → (refused ≡ true → all_told m sts fs ≡ false) → list_all (is_closed []) fs ≡ true
+        → all_told m sts (as_one_unless refused fs) ≡ all_told m sts fs
+    unless_so true fs none h = sym (none refl)
+    unless_so false fs none h = one_so fs h
+
     -- the write of a variable of the file
     pub writes_so : (c : Contract) → BehaviorFits m p s texts c.plain → c.plain.assumes ≡ [] → AllOf (BehaviorFits m p s texts) c.behaviors
-        → all_told m sts (as_one (missing_in p s texts 1 true c.plain (variables.Global x) ++ missing_all p s texts 1 c.behaviors (variables.Global x)))
+        → all_told m sts (as_one_unless (lacks c.plain.assigns (variables.Global x)) (missing_in p s texts 1 true c.plain (variables.Global x) ++ missing_all p s texts 1 c.behaviors (variables.Global x)))
         ≡ list_all lets (granted_in p w n (c.plain ∷ c.behaviors))
     writes_so c fits none behaviors =
         let h = one_more true c.plain c.behaviors fits (λ e. ap (list_all (holds p w)) none) (behaviors_so c.behaviors behaviors) in
-        one_so (missing_in p s texts 1 true c.plain (variables.Global x) ++ missing_all p s texts 1 c.behaviors (variables.Global x)) h.0 ∙ h.1
+        unless_so (lacks c.plain.assigns (variables.Global x)) (missing_in p s texts 1 true c.plain (variables.Global x) ++ missing_all p s texts 1 c.behaviors (variables.Global x))
+        (λ refused. ap (λ l. all_told m sts ((if l then false_tree ∷ [] else []) ++ missing_all p s texts 1 c.behaviors (variables.Global x))) refused) h.0 ∙ h.1
 
   -- no variable of the function needs leave
   pub locals_so : (x : ℕ) (bs : List Behavior) → list_all (lets_local p x) (granted_in p w n bs) ≡ true

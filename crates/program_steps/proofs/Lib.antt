@@ -6,10 +6,10 @@ pub mod Ends
 pub mod Setting
 pub mod Seeing
 pub mod Valued
+pub mod Dropping
 pub mod Singles
 pub mod Leaving
 pub mod Scoping
-pub mod Dropping
 pub mod Statements
 pub mod Good
 pub mod Tests

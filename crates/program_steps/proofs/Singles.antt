@@ -72,6 +72,7 @@ use Rattle.program_steps.proofs.Listing.{put_same, comes, fails_first, fails_sec
 use Rattle.program_steps.proofs.Standing.{of_function}
 use Rattle.program_steps.proofs.Setting.{used_less, slot_set, temp_set, local_set, global_set}
 use Rattle.program_steps.proofs.Seeing.{seen_as}
+use Rattle.program_steps.proofs.Dropping.{Drops, all_dropped}
 use Rattle.program_steps.proofs.Asking.{Told, closed_told, closed_value, behind}
 use Rattle.program_steps.proofs.Ends.{ends_more, after_checks, ask_both}
 use Rattle.program_steps.proofs.Valued as valued
@@ -371,29 +372,49 @@ module _ (m : sense.World) (q : Program Steps) (s : Shape) (texts : Texts) (cont
         → BothWays (λ o. exec.exec q no_deeper s.variables here (core.give cs (Some e)) c ≡ o) (EndsAt (word_at pt (core.give cs (Some e)) f) n) olds n
         (word_at pt (core.give cs (Some e)) f) st
     give_value cs e (k, result, fits, same) stands = behind_value (live (core.give cs (Some e)) pt.outs f) e k stands fits b (run.returns (total_of e) c) tail cs same where
+      gone : Step
+      gone = word.all_dropped m p s texts contract others
+
       b : Step
-      b = step.seq (step.set (result_slot (sizes p s)) (number_of m (term_of_it e))) (step.exit (length pt.outs))
+      b = step.seq (step.set (result_slot (sizes p s)) (number_of m (term_of_it e))) (step.seq gone (step.exit (length pt.outs)))
 
       z : ℤ
       z = sense.value m (leaves_of (st ∷ olds)) (closed (term_of_it e))
 
-      later : StandsFor p s t0 i no_temporaries c (slots.put st (result_slot (sizes p s)) z)
-      later = slot_set p s setting.globals setting.integers i (live (core.give cs (Some e)) pt.outs f) c st stands no_temporaries (result_slot (sizes p s)) z (omega arith)
-          (none_less (live (core.give cs (Some e)) pt.outs f)) (λ j h. absurd (false≢true h))
+      given : State
+      given = walk.put st (result_slot (sizes p s)) z
 
-      there : at (slots.put st (result_slot (sizes p s)) z) (result_slot (sizes p s)) ≡ z
-      there = put_here (pos 0) st (result_slot (sizes p s)) z (let r = stands.size in omega (arith, r))
+      same_put : given ≡ slots.put st (result_slot (sizes p s)) z
+      same_put = put_same st (result_slot (sizes p s)) z
 
-      returned : (v : ValueIs m p (st ∷ olds) (term_of_it e) k (total_of e)) → ReturnsIt p s t0 i (total_of e) c (slots.put st (result_slot (sizes p s)) z)
+      later : StandsFor p s t0 i no_temporaries c given
+      later = subst (StandsFor p s t0 i no_temporaries c) (sym same_put)
+          (slot_set p s setting.globals setting.integers i (live (core.give cs (Some e)) pt.outs f) c st stands no_temporaries (result_slot (sizes p s)) z (omega arith)
+          (none_less (live (core.give cs (Some e)) pt.outs f)) (λ j h. absurd (false≢true h)))
+
+      r : Drops m q s texts contract others setting t0 i no_temporaries c olds gone given
+      r = all_dropped m q s texts contract others setting t0 i c olds given later
+
+      there : at r.state (result_slot (sizes p s)) ≡ z
+      there = r.result ∙ ap (λ a. at a (result_slot (sizes p s))) same_put ∙ put_here (pos 0) st (result_slot (sizes p s)) z (let l = stands.size in omega (arith, l))
+
+      returned : (v : ValueIs m p (st ∷ olds) (term_of_it e) k (total_of e)) → ReturnsIt p s t0 i (total_of e) c r.state
       returned v = record {
-        stands = later;
+        stands = r.stands;
         result = subst (λ o. IsResult p o (total_of e)) (sym result) (z, v.is, v.fits);
         slot = λ k e. v.is ∙ ap number (sym there);
       }
 
+      only : (n' : ℕ) (x : End) → Seg olds n' (step.seq gone (step.exit (length pt.outs))) given x → leaves (length pt.outs) r.state ≡ x
+      only n' x h = by (seq_ways h) where
+        by : (seg.IsOver x × Seg olds n' gone given x) ⊎ ((mid : State) × Seg olds n' gone given (goes_on mid) × Seg olds (n' + count gone) (step.exit (length pt.outs)) mid x)
+            → leaves (length pt.outs) r.state ≡ x
+        by (inl (over, k)) = absurd (subst seg.IsOver (sym (r.only n' x k)) over)
+        by (inr (mid, k, l)) = exit_way (subst (λ y. Seg olds (n' + count gone) (step.exit (length pt.outs)) y x) (sym (goes_parts (r.only n' (goes_on mid) k))) l)
+
       tail : ValueIs m p (st ∷ olds) (term_of_it e) k (total_of e) → (n' : ℕ) → BothWays (λ o. run.returns (total_of e) c ≡ o) (EndsAt b n') olds n' b st
-      tail v n' = one_end (EndsAt b n') (run.returns (total_of e) c) (leaves (length pt.outs) (walk.put st (result_slot (sizes p s)) z)) (set_then seg.exits) (λ x h. exit_way (sets_then h))
-          (refl, subst (ReturnsIt p s t0 i (total_of e) c) (sym (put_same st (result_slot (sizes p s)) z)) (returned v))
+      tail v n' = one_end (EndsAt b n') (run.returns (total_of e) c) (leaves (length pt.outs) r.state) (set_then (seg.goes_both (r.runs n') seg.exits))
+          (λ x h. only n' x (sets_then h)) (refl, returned v)
 
     exit_both : (k : ℕ) → k < length pt.outs → StandsFor p s t0 i (live (core.exit k) pt.outs f) c st
         → BothWays (λ o. exec.exec q no_deeper s.variables here (core.exit k) c ≡ o) (EndsAt (word_at pt (core.exit k) f) n) olds n (word_at pt (core.exit k) f) st

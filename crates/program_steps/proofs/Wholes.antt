@@ -36,7 +36,7 @@ use Rattle.walk_steps.proofs.Readings.{seq_ways, block_way, remember_way, last_a
 use Rattle.program_steps.specs.Leaves.{closed, leaves_of}
 use Rattle.program_steps.specs.Stops.{undefined_place}
 use Rattle.program_steps.specs.Temporaries.{no_temporaries}
-use Rattle.program_steps.specs.Terms.{Texts}
+use Rattle.program_steps.specs.Terms.{Texts, kind_given}
 use Rattle.program_steps.specs.Words as word
 use Rattle.program_steps.specs.Words.{Others}
 use Rattle.program_steps.specs.Standing.{StandsFor, SeenAs, SeenBy, FailsAs, ReturnsIt, Ends}
@@ -52,6 +52,8 @@ use Rattle.program_steps.proofs.Statements.{all_both}
 use Rattle.program_steps.proofs.Tests.{Comes, Asks, goes, stops as asks_stop, asks_way, ask_stops, ask_goes}
 use Rattle.program_steps.proofs.Contracts.{togethers_come, all_come}
 use Rattle.program_steps.proofs.Granting.{all_append, and_so, writes_so, locals_so}
+use Rattle.acsl_encode.specs.Meaning.{IsOfKind}
+use Rattle.c_kinds.specs.Models.{holds}
 
 goes_parts : {a b : State} → goes_on a ≡ goes_on b → a ≡ b
 goes_parts e = cc
@@ -274,10 +276,19 @@ module _ (m : sense.World) (q : Program Steps) (own : ℕ) (f : Function Steps) 
     post_is = there;
     loop_entry_is = enters.seen;
     result = back.slot;
+    result_fits = of_kind f.result back.result back.slot;
     model = refl;
     structs = λ n. refl;
   }
     where
+      same_number : {a b : ℤ} → number a ≡ number b → a ≡ b
+      same_number e = cc
+
+      of_kind : (o : Option CellKind) → IsResult p o v → ((k : CellKind) → o ≡ Some k → v ≡ number (at st' (result_slot (sizes p s)))) → IsOfKind p.model (kind_given o) (at st' (result_slot (sizes p s)))
+      of_kind (Some (cell.Of k)) (z, is, h) slot = ap (holds p.model k) (same_number (sym (slot (cell.Of k) refl) ∙ is)) ∙ h
+      of_kind (Some cell.Ptr) r slot = absurd r
+      of_kind None r slot = tt
+
       there : SeenAs p s (seen_by_contract p vs (behind_call w u).memory) st' st
       there = record {
         file_homes = enters.seen.file_homes;

@@ -36,10 +36,11 @@ use Rattle.walk_steps.specs.Step.{Step, skip, halt, seq, ask, block, remember}
 use Rattle.program_steps.specs.Leaves.{is_closed, leaves_of}
 use Rattle.program_steps.specs.Stops.{undefined_place, broken_place}
 use Rattle.program_steps.specs.Temporaries.{no_temporaries, all_live}
-use Rattle.program_steps.specs.Terms.{Texts, entry_reading, return_reading, claim_tree, assumed_tree}
+use Rattle.program_steps.specs.Terms.{Texts, entry_reading, return_reading, claim_tree, assumed_tree, kind_given}
 use Rattle.program_steps.specs.Words.{Point, of_function, Others, under, check, ask_one, steps}
 use Rattle.program_steps.specs.Standing.{StandsFor, SeenAs, FailsAs}
 use Rattle.program_steps.specs.Typed.{ClaimFits, OtherFits, AllFit}
+use Rattle.acsl_encode.specs.Meaning.{IsOfKind}
 
 -- in the body of a function, whose entry is the last state that is remembered
 abbrev pub body_point : (number : ℕ) → Point
@@ -110,6 +111,7 @@ pub record SeenReturn (p : Facts) (s : Shape) (w : labelled.World) (sts : List S
   pub post_is : SeenAs p s w.post (at_or [] sts 0) (at_or [] sts 1)
   pub loop_entry_is : SeenAs p s w.loop_entry (at_or [] sts 1) (at_or [] sts 1)
   pub result : (k : CellKind) → s.result ≡ Some k → w.result ≡ number (at (at_or [] sts 0) (result_slot (sizes p s)))
+  pub result_fits : IsOfKind p.model (kind_given s.result) (at (at_or [] sts 0) (result_slot (sizes p s)))
   pub model : p.model ≡ w.model
   pub structs : (n : ℕ) → struct_cells p n ≡ w.structs n
 

@@ -22,11 +22,20 @@ use Rattle.acsl_encode.specs.Readings.{Slot, whole, any_integer, absent, Seen, C
 use Rattle.acsl_encode.specs.Binders.{Spelled, numbered}
 use Rattle.acsl_encode.specs.Encode.{formula_of, all_of}
 use Rattle.program_steps.specs.Leaves.{leaf}
+use Rattle.wp_base.specs.declared.kinds.CellKind.{CellKind}
+use Rattle.wp_base.specs.declared.kinds.CellKind.TheVariants as cell
+use Rattle.wp_base.specs.declared.kinds.Kind.{Kind}
 
 -- what isn't known of a program without its texts: the names of the binders of each annotation, and how logic functions are called
 pub record Texts : Type 0 where
   pub binders : acsl.Tree → Spelled
   pub called : (number : ℕ) → Option Called
+
+-- the kind of the integers that a function gives
+abbrev pub kind_given : Option CellKind → Option Kind
+kind_given (Some (cell.Of k)) = Some k
+kind_given (Some cell.Ptr) = None
+kind_given None = None
 
 -- a variable that holds this; one that is declared without a value may hold any integer until it is set
 abbrev pub held_in : program.Variable → Tree → Slot
@@ -111,14 +120,14 @@ module _ (p : Facts) (s : Shape) where
     abbrev pub entry_reading : (level : ℕ) → acsl.Tree → annotation.Reading
     entry_reading e a = body_reading e e e a
 
-    -- where the function returns: parameters have their values at entry
+    -- where the function returns: parameters have their values at entry, and its result has its kind
     abbrev pub return_reading : (entry : ℕ) → acsl.Tree → annotation.Reading
     return_reading e a = record {
       here = seen_at 0 e;
       pre = seen_at e e;
       post = seen_at 0 e;
       loop_entry = seen_at e e;
-      result = integer None (leaf 0 (result_slot (sizes p s)));
+      result = integer (kind_given s.result) (leaf 0 (result_slot (sizes p s)));
       common = common_of a;
       called = texts.called;
     }

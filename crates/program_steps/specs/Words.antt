@@ -58,6 +58,11 @@ abbrev pub as_one : List Tree → List Tree
 as_one [] = []
 as_one (f ∷ fs) = all_of (f ∷ fs) ∷ []
 
+-- `false` alone where the clause outside of behaviors refuses
+abbrev pub as_one_unless : (refused : Bool) → List Tree → List Tree
+as_one_unless true fs = false_tree ∷ []
+as_one_unless false fs = as_one fs
+
 -- where this is assumed
 abbrev pub under : (is_plain : Bool) → (assumed f : Tree) → Tree
 under true a f = f
@@ -78,7 +83,8 @@ module _ (p : Facts) (s : Shape) (texts : Texts) where
 
   -- a variable of the function needs no leave from the function's clauses
   abbrev pub missing : (entry : ℕ) → Contract → Variable → List Tree
-  missing e c (variables.Global x) = as_one (missing_in e true c.plain (variables.Global x) ++ missing_all e c.behaviors (variables.Global x))
+  missing e c (variables.Global x) =
+      as_one_unless (lacks c.plain.assigns (variables.Global x)) (missing_in e true c.plain (variables.Global x) ++ missing_all e c.behaviors (variables.Global x))
   missing e c (variables.Local x) = []
 
   -- a loop says nothing of variables that are declared inside of it
@@ -197,6 +203,10 @@ module _ (m : sense.World) (p : Facts) (s : Shape) (texts : Texts) (contract : C
   abbrev pub dropped : (before after : Temporaries) → Step
   dropped f g = drop m (sizes p s) s.temporaries (λ n. f n && not (g n))
 
+  -- behind a value that is returned none is used
+  abbrev pub all_dropped : Step
+  all_dropped = drop m (sizes p s) s.temporaries (λ n. true)
+
   abbrev mutual
     pub step : Point → core.Step → (after : Temporaries) → Step
     step pt (core.set cs n e) f = seq (value_step e) (set (temp_slot (sizes p s) n) (number m (term_in e)))
@@ -212,7 +222,7 @@ module _ (m : sense.World) (p : Facts) (s : Shape) (texts : Texts) (contract : C
     step pt (core.around ss) f = block (steps (in_block f pt) ss f)
     step pt (core.exit k) f = exit k
     step pt (core.give cs None) f = exit (length pt.outs)
-    step pt (core.give cs (Some e)) f = seq (value_step e) (seq (set (result_slot (sizes p s)) (number m (term_in e))) (exit (length pt.outs)))
+    step pt (core.give cs (Some e)) f = seq (value_step e) (seq (set (result_slot (sizes p s)) (number m (term_in e))) (seq all_dropped (exit (length pt.outs))))
     step pt (core.claim c) f = ask_one m (claim_tree p s texts (body_reading p s texts 0 (suc pt.entry) (suc pt.loop_entry)) c.what) (broken_place broken.assert c.line)
     step pt (core.scope ys ss) f = scope (slots_of (sizes p s) ys) (seq (all_opened m s (sizes p s) ys) (steps pt ss f))
 

@@ -110,11 +110,11 @@ module _ (g : Over) (x : Frame) (fs : ℕ → Option (Function core.Steps)) (tex
   told p q fit fit' r s s' e h = subst (λ a. IfOk r (λ goes. Walks x.bases.now (step_word g x fs text pt a f) p q fit fit' goes)) (sym e) h
 
   pub return_told : {E : Type 0} (p q : Held) (fit fit' : List Goal → Type 0) (r : Result Bool E) (cs : List Check) (n : ℕ) (o : Option t.Value) → n ≡ length pt.outs
-      → IfOk r (λ goes. Walks x.bases.now (return_word g.world (facts_in x) (variables_in x) n o) p q fit fit' goes) → IfOk r (λ goes. Walks x.bases.now (step_word g x fs text pt (core.give cs o) f) p q fit fit' goes)
+      → IfOk r (λ goes. Walks x.bases.now (return_word g.world (facts_in x) (variables_in x) x.temporaries n o) p q fit fit' goes) → IfOk r (λ goes. Walks x.bases.now (step_word g x fs text pt (core.give cs o) f) p q fit fit' goes)
   return_told p q fit fit' r cs n o e h =
-      subst (λ a. IfOk r (λ goes. Walks x.bases.now a p q fit fit' goes)) (ap (λ k. return_word g.world (facts_in x) (variables_in x) k o) e ∙ by o) h
+      subst (λ a. IfOk r (λ goes. Walks x.bases.now a p q fit fit' goes)) (ap (λ k. return_word g.world (facts_in x) (variables_in x) x.temporaries k o) e ∙ by o) h
     where
-      by : (o : Option t.Value) → return_word g.world (facts_in x) (variables_in x) (length pt.outs) o ≡ step_word g x fs text pt (core.give cs o) f
+      by : (o : Option t.Value) → return_word g.world (facts_in x) (variables_in x) x.temporaries (length pt.outs) o ≡ step_word g x fs text pt (core.give cs o) f
       by None = refl
       by (Some v) = refl
 

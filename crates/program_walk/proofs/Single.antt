@@ -37,6 +37,9 @@ module _ {bases : List (List ℕ)} {m : sense.World} {p : Facts} {xs : List Vari
   start_after {r = r} x n is_number go =
       seq_goes ev.walks (subst (λ k. Walks bases (words.set_variable m k (term_word m p xs e)) q r fit' fit' true) is_number (moved (go (term_word m p xs e) value_is)))
 
-  pub give_after : {r s : Held} (k i : ℕ) → i ≡ result_slot z → r ≡ now_set q i v → s ≡ now_left r k → Walks bases (give_word m p xs k e) h s fit fit' false
-  give_after {r = r} k i is_slot is left =
-      seq_goes ev.walks (seq_goes (set_walks (result_slot (sizes_of p xs)) (number m (term_word m p xs e)) v value_is (is ∙ ap (λ j. now_set q j v) (is_slot ∙ ap result_slot is_sizes))) (exit_walks k left))
+  pub give_after : {r s t : Held} (c k i : ℕ) → i ≡ result_slot z → r ≡ now_set q i v → ((gs : List Goal) → Walks bases (words.drop m z c (λ n. true)) r s (Still gs) (Still gs) true) → t ≡ now_left s k
+      → Walks bases (give_word m p xs c k e) h t fit fit' false
+  give_after {r = r} {s = s} c k i is_slot is gone left =
+      seq_goes ev.walks
+      (seq_goes (set_walks (result_slot (sizes_of p xs)) (number m (term_word m p xs e)) v value_is (is ∙ ap (λ j. now_set q j v) (is_slot ∙ ap result_slot is_sizes)))
+      (seq_goes (subst (λ w. Walks bases (words.drop m w c (λ n. true)) r s fit' fit' true) is_sizes (moved gone)) (exit_walks k left)))

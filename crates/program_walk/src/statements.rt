@@ -24,7 +24,7 @@ use std::alloc::Global;
 use step_walks::{GoalSink, State, know, leave, set};
 use typed_prog::Value;
 use value_words::{ValueTerm, result_slot, temp_slot};
-use walk_frames::{Frame, drop_unused, set_to, sizes_in, walk_value};
+use walk_frames::{Frame, drop_all, drop_unused, set_to, sizes_in, walk_value};
 use wp_base::NoMemory;
 
 /// The number of a variable of the function, among those of the file and its own.
@@ -81,13 +81,14 @@ fn walk_give<'a, S: GoalSink>(
     state: &mut State,
     sink: &mut S,
 ) -> Result<bool, NoMemory>
-    ensures { (first : S) (m : sense.World) (k : ℕ → Kind) → IsClosed (facts_in frame.entry) (shape_in frame.entry k) (view_value value.now) → IfOk result (λ goes. Walks frame.entry.bases.now (give_word m (facts_in frame.entry) (variables_in frame.entry) blocks (view_value value.now)) (view_state state.old) (view_state state.new) (S.fits first sink.old) (S.fits first sink.new) goes) }
+    ensures { (first : S) (m : sense.World) (k : ℕ → Kind) → IsClosed (facts_in frame.entry) (shape_in frame.entry k) (view_value value.now) → IfOk result (λ goes. Walks frame.entry.bases.now (give_word m (facts_in frame.entry) (variables_in frame.entry) frame.entry.temporaries blocks (view_value value.now)) (view_state state.old) (view_state state.new) (S.fits first sink.old) (S.fits first sink.new) goes) }
 {
     let made = walk_value(alloc, frame, value, state, sink)?;
     let sizes = sizes_in(frame);
     let slot = result_slot(sizes)?;
     let term = made.number(alloc)?;
     set(alloc, slot, term, state)?;
+    drop_all(alloc, sizes, frame.temporaries, state)?;
     leave(alloc, blocks, state)?;
     Ok(false)
 }
@@ -101,7 +102,7 @@ pub(crate) fn walk_return<'a, S: GoalSink>(
     state: &mut State,
     sink: &mut S,
 ) -> Result<bool, NoMemory>
-    ensures { (first : S) (m : sense.World) (k : ℕ → Kind) → GivenClosed (facts_in frame.entry) (shape_in frame.entry k) (option_map view_value value.now) → IfOk result (λ goes. Walks frame.entry.bases.now (return_word m (facts_in frame.entry) (variables_in frame.entry) blocks (option_map view_value value.now)) (view_state state.old) (view_state state.new) (S.fits first sink.old) (S.fits first sink.new) goes) }
+    ensures { (first : S) (m : sense.World) (k : ℕ → Kind) → GivenClosed (facts_in frame.entry) (shape_in frame.entry k) (option_map view_value value.now) → IfOk result (λ goes. Walks frame.entry.bases.now (return_word m (facts_in frame.entry) (variables_in frame.entry) frame.entry.temporaries blocks (option_map view_value value.now)) (view_state state.old) (view_state state.new) (S.fits first sink.old) (S.fits first sink.new) goes) }
 {
     match value {
         None => {

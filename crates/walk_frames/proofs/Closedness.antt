@@ -11,7 +11,7 @@ use Rattle.c_runs.specs.Program.{Behavior, Contract, Facts}
 use Rattle.plain_runs.specs.Fitting.{Shape}
 use Rattle.program_steps.specs.Leaves.{is_closed, are_closed}
 use Rattle.program_steps.specs.Terms.{Texts, assumed_tree, body_reading, claim_tree, entry_reading, has_variable, or_none, return_reading}
-use Rattle.program_steps.specs.Words.{Force, of_function, of_loop, Point, as_one, is_inside, lacks, missing_all, missing_in, under, write_trees}
+use Rattle.program_steps.specs.Words.{Force, of_function, of_loop, Point, as_one, as_one_unless, is_inside, lacks, missing_all, missing_in, under, write_trees}
 use Rattle.annotation_words.specs.Closed.{ReadingClosed}
 use Rattle.annotation_words.proofs.OverLeaves.{annotations_closed}
 use Rattle.walk_frames.specs.Asked.{AreClosed}
@@ -38,9 +38,13 @@ all_of_closed [] h = refl
 all_of_closed (f ∷ []) h = (all_parts (is_closed [] f) true h).0
 all_of_closed (f ∷ g ∷ fs) h = parts_closed (f ∷ g ∷ fs) h
 
-pub as_one_closed : (fs : List Tree) → AreClosed fs → AreClosed (as_one fs)
+as_one_closed : (fs : List Tree) → AreClosed fs → AreClosed (as_one fs)
 as_one_closed [] h = refl
 as_one_closed (f ∷ fs) h = all_so (is_closed [] (all_of (f ∷ fs))) true (all_of_closed (f ∷ fs) h) refl
+
+unless_closed : (refused : Bool) (fs : List Tree) → AreClosed fs → AreClosed (as_one_unless refused fs)
+unless_closed true fs h = refl
+unless_closed false fs h = as_one_closed fs h
 
 pub under_closed : (b : Bool) (a f : Tree) → is_closed [] a ≡ true → is_closed [] f ≡ true → is_closed [] (under b a f) ≡ true
 under_closed true a f h k = k
@@ -88,7 +92,7 @@ module _ (p : Facts) (s : Shape) (texts : Texts) where
 
       by : (w : Force) (x : Variable) → AreClosed (write_trees p s texts c (record pt { force = w }) x)
       by of_function (variables.Global x) =
-          as_one_closed (missing_in p s texts (suc pt.entry) true c.plain (variables.Global x) ++ missing_all p s texts (suc pt.entry) c.behaviors (variables.Global x))
+          unless_closed (lacks c.plain.assigns (variables.Global x)) (missing_in p s texts (suc pt.entry) true c.plain (variables.Global x) ++ missing_all p s texts (suc pt.entry) c.behaviors (variables.Global x))
           (both_closed (missing_in p s texts (suc pt.entry) true c.plain (variables.Global x)) (missing_all p s texts (suc pt.entry) c.behaviors (variables.Global x))
           (missing_one (suc pt.entry) true c.plain (variables.Global x)) (missing_each (suc pt.entry) c.behaviors (variables.Global x)))
       by of_function (variables.Local x) = refl

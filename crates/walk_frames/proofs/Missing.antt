@@ -1,5 +1,5 @@
 -- Clauses that don't name a variable, one after the other.
-use Rattle.std.proofs.Common.{◌≡◌, ◌<◌, ◌≤◌, ℕ, ◌+◌, false, List, [], ◌∷◌, ◌++◌, map, drop, length, get_or, refl, sym, ap, ◌∙◌, append_assoc, append-nil}
+use Rattle.std.proofs.Common.{◌≡◌, ◌<◌, ◌≤◌, ℕ, ◌+◌, Bool, false, List, [], ◌∷◌, ◌++◌, map, drop, length, get_or, refl, sym, ap, ◌∙◌, append_assoc, append-nil}
 use Rattle.std.proofs.lemmas.List.{at_drop_more, at_drop_all}
 use Rattle.typed_prog.specs.declared.operators.Variable.{Variable}
 use Rattle.qed_terms.specs.Tree.{Tree}
@@ -10,8 +10,8 @@ use Rattle.program_trees.specs.declared.contracts.Behavior.{Behavior}
 use Rattle.program_trees.specs.View.{view_behavior}
 use Rattle.program_steps.specs.Leaves.{fill}
 use Rattle.program_steps.specs.Terms.{Texts}
-use Rattle.program_steps.specs.Words.{as_one, missing_all, missing_in}
-use Rattle.walk_frames.proofs.Over.{as_one_filled}
+use Rattle.program_steps.specs.Words.{as_one_unless, missing_all, missing_in}
+use Rattle.walk_frames.proofs.Over.{unless_filled}
 
 pub filled_both : (ss : List Slots) (fs gs : List Tree) → map (fill ss) (fs ++ gs) ≡ map (fill ss) fs ++ map (fill ss) gs
 filled_both ss [] gs = refl
@@ -32,5 +32,6 @@ module _ (ss : List Slots) (p : Facts) (s : Shape) (texts : Texts) (e : ℕ) (x 
   missing_end bs i made whole le h =
       sym (append-nil made) ∙ ap (λ fs. made ++ map (fill ss) fs) (sym (at_drop_all (λ cs. missing_all p s texts e (map view_behavior cs) x) bs i le)) ∙ h
 
-pub missing_joined : (ss : List Slots) (fs : List Tree) (made new : List Tree) → made ≡ map (fill ss) fs → new ≡ as_one made → new ≡ map (fill ss) (as_one fs)
-missing_joined ss fs made new h push = push ∙ ap as_one h ∙ sym (as_one_filled ss fs)
+pub missing_joined : (ss : List Slots) (fs : List Tree) (made new : List Tree) (refused is_refused : Bool) → refused ≡ is_refused → made ≡ map (fill ss) fs → new ≡ as_one_unless refused made
+    → new ≡ map (fill ss) (as_one_unless is_refused fs)
+missing_joined ss fs made new refused is_refused is h push = push ∙ (λ i. as_one_unless (is i) (h i)) ∙ sym (unless_filled ss is_refused fs)

@@ -59,6 +59,18 @@ module _ {bases : List (List ℕ)} where
       → Walks bases (words.drop m z n f) p q (Still gs) (Still gs) true → Walks bases (words.drop m z c f) p q (Still gs) (Still gs) true
   all_dropped {p = p} {q = q} {gs = gs} m z c f xs n e l h = subst (λ k. Walks bases (words.drop m z k f) p q (Still gs) (Still gs) true) (l ∙ ap length e ∙ bits_long c f) h
 
+  -- ... each of the first ones
+  pub next_dropped : {p q r : Held} {gs : List Goal} (m : sense.World) (z : Sizes) (n : ℕ) → Walks bases (words.drop m z n (λ i. true)) p q (Still gs) (Still gs) true
+      → Walks bases (cond true (steps.set (temp_slot z n) (number m (num (pos 0)))) steps.skip) q r (Still gs) (Still gs) true
+      → Walks bases (words.drop m z (n + 1) (λ i. true)) p r (Still gs) (Still gs) true
+  next_dropped {p = p} {r = r} {gs = gs} m z n h k =
+      let next : suc n ≡ n + 1 = omega arith in
+      subst (λ k. Walks bases (words.drop m z k (λ i. true)) p r (Still gs) (Still gs) true) next (seq_goes h k)
+
+  pub every_dropped : {p q : Held} {gs : List Goal} (m : sense.World) (z : Sizes) (c n : ℕ) → n ≡ c → Walks bases (words.drop m z n (λ i. true)) p q (Still gs) (Still gs) true
+      → Walks bases (words.drop m z c (λ i. true)) p q (Still gs) (Still gs) true
+  every_dropped {p = p} {q = q} {gs = gs} m z c n e h = subst (λ k. Walks bases (words.drop m z k (λ i. true)) p q (Still gs) (Still gs) true) e h
+
   pub one_set : {p q : Held} {gs : List Goal} (m : sense.World) (z : Sizes) (n i : ℕ) (b : Bool) (u : Tree) → b ≡ true → i ≡ temp_slot z n → u ≡ num (pos 0) → q ≡ now_set p i u
       → Walks bases (cond b (steps.set (temp_slot z n) (number m (num (pos 0)))) steps.skip) p q (Still gs) (Still gs) true
   one_set {p = p} {q = q} {gs = gs} m z n i b u h e k l =

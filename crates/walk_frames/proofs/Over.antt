@@ -13,7 +13,7 @@ use Rattle.walk_steps.specs.State.{at_or}
 use Rattle.walk_steps.specs.Forms.{Slots}
 use Rattle.program_steps.specs.Leaves.{fill, fill_all}
 use Rattle.program_steps.specs.Terms.{Texts, assumed_tree, body_reading, claim_tree, entry_reading}
-use Rattle.program_steps.specs.Words.{as_one, under}
+use Rattle.program_steps.specs.Words.{as_one, as_one_unless, under}
 use Rattle.annotation_words.specs.Bodies.{body_over}
 use Rattle.annotation_words.specs.Claims.{claimed}
 use Rattle.annotation_words.proofs.OverLeaves.{annotations_closed, annotations_filled}
@@ -29,9 +29,13 @@ all_of_filled ss [] = refl
 all_of_filled ss (f ∷ []) = refl
 all_of_filled ss (f ∷ g ∷ fs) = ap (node head.And) (parts_filled ss (f ∷ g ∷ fs))
 
-pub as_one_filled : (ss : List Slots) (fs : List Tree) → map (fill ss) (as_one fs) ≡ as_one (map (fill ss) fs)
+as_one_filled : (ss : List Slots) (fs : List Tree) → map (fill ss) (as_one fs) ≡ as_one (map (fill ss) fs)
 as_one_filled ss [] = refl
 as_one_filled ss (f ∷ fs) = ap (λ t. t ∷ []) (all_of_filled ss (f ∷ fs))
+
+pub unless_filled : (ss : List Slots) (refused : Bool) (fs : List Tree) → map (fill ss) (as_one_unless refused fs) ≡ as_one_unless refused (map (fill ss) fs)
+unless_filled ss true fs = refl
+unless_filled ss false fs = as_one_filled ss fs
 
 pub under_filled : (ss : List Slots) (b : Bool) (a f : Tree) → fill ss (under b a f) ≡ under b (fill ss a) (fill ss f)
 under_filled ss true a f = refl

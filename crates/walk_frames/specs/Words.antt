@@ -1,5 +1,5 @@
 -- Words of single statements, as they are told of in memory.
-use Rattle.std.specs.Prelude.{◌≡◌, ℕ, ◌+◌, Bool, ◌||◌, if◌then◌else◌, pos, List, [], ◌∷◌, Option, Some, None}
+use Rattle.std.specs.Prelude.{◌≡◌, ℕ, ◌+◌, Bool, true, ◌||◌, if◌then◌else◌, pos, List, [], ◌∷◌, Option, Some, None}
 use Rattle.typed_prog.specs.Tree as t
 use Rattle.qed_terms.specs.Meaning as sense
 use Rattle.qed_terms.specs.Tree.{Tree, num, false_tree}
@@ -18,7 +18,7 @@ use Rattle.walk_steps.specs.Walk.{Goal}
 use Rattle.program_steps.specs.Leaves.{number}
 use Rattle.program_steps.specs.Stops.{broken_place}
 use Rattle.program_steps.specs.Terms.{Texts}
-use Rattle.program_steps.specs.Words.{Point, write_trees, variable_number, ask_all, items_step, set_variable, any_at}
+use Rattle.program_steps.specs.Words.{Point, write_trees, variable_number, ask_all, items_step, set_variable, any_at, drop}
 use Rattle.value_words.specs.OverSlots.{leaf_reading}
 use Rattle.value_words.specs.Laws.{IsClosed, AreClosed}
 
@@ -42,12 +42,12 @@ module _ (m : sense.World) (p : Facts) (xs : List Variable) where
   abbrev pub start_word : (variable : ℕ) → t.Value → Step
   start_word x e = seq (value_word e) (set_variable m ((sizes_of p xs).globals + x) (term_word e))
 
-  abbrev pub give_word : (blocks : ℕ) → t.Value → Step
-  give_word k e = seq (value_word e) (seq (set (result_slot (sizes_of p xs)) (number m (term_word e))) (exit k))
+  abbrev pub give_word : (temporaries blocks : ℕ) → t.Value → Step
+  give_word c k e = seq (value_word e) (seq (set (result_slot (sizes_of p xs)) (number m (term_word e))) (seq (drop m (sizes_of p xs) c (λ n. true)) (exit k)))
 
-  abbrev pub return_word : (blocks : ℕ) → Option t.Value → Step
-  return_word k None = exit k
-  return_word k (Some e) = give_word k e
+  abbrev pub return_word : (temporaries blocks : ℕ) → Option t.Value → Step
+  return_word c k None = exit k
+  return_word c k (Some e) = give_word c k e
 
 -- what is asked in a loop of a write to a variable: nothing where the loop's set names it, or it is declared inside of the loop
 abbrev pub unless : (named inside : Bool) → List Tree

@@ -1,5 +1,5 @@
 // What the set in force asks of a write (ACSL 2.3.2, 2.4.2).
-ghost use Rattle.std.specs.Prelude.{◌≡◌, ◌++◌, ℕ, List, map, true, IfOk, OnOk};
+ghost use Rattle.std.specs.Prelude.{◌≡◌, ◌++◌, [], ◌∷◌, ℕ, List, map, true, IfOk, OnOk};
 ghost use Rattle.acsl_trees.specs.Tree.{view_trees};
 ghost use Rattle.c_runs.specs.Program.{Facts};
 ghost use Rattle.plain_runs.specs.Fitting.{Shape};
@@ -9,6 +9,7 @@ ghost use Rattle.program_steps.specs.Terms as terms;
 ghost use Rattle.program_steps.specs.Terms.{assumed_tree, entry_reading};
 ghost use Rattle.program_steps.specs.Words as spec;
 ghost use Rattle.program_trees.specs.View.{view_behavior, view_contract};
+ghost use Rattle.qed_terms.specs.Tree.{false_tree};
 ghost use Rattle.qed_terms.specs.View.{formula_tree};
 ghost use Rattle.step_walks.specs.View.{view_state};
 ghost use Rattle.step_walks.specs.Walks.{states};
@@ -28,9 +29,9 @@ use step_walks::State;
 use typed_prog::Variable;
 use wp_base::{List, NoMemory};
 
-/// Several as one, if there are any.
+// Several as one, if there are any.
 #[tactic(auto, using(crate::proofs::Given::none_as_one, crate::proofs::Given::some_as_one))]
-pub fn as_one(alloc: Global, formulas: List<Formula>) -> Result<List<Formula>, NoMemory>
+fn as_one(alloc: Global, formulas: List<Formula>) -> Result<List<Formula>, NoMemory>
     ensures { IfOk result (λ made. map formula_tree made ≡ spec.as_one (map formula_tree formulas)) }
 {
     let mut made = List::new(alloc);
@@ -38,6 +39,30 @@ pub fn as_one(alloc: Global, formulas: List<Formula>) -> Result<List<Formula>, N
         made.push(all_of(formulas))?;
     }
     Ok(made)
+}
+
+#[tactic(auto, using(qed_terms::proofs::Equations::tree_laws))]
+fn refusal(alloc: Global) -> Result<List<Formula>, NoMemory>
+    ensures { IfOk result (λ made. map formula_tree made ≡ false_tree ∷ []) }
+{
+    let mut made = List::new(alloc);
+    made.push(Formula::False)?;
+    Ok(made)
+}
+
+/// Several as one, if there are any; `false` alone where the clause outside of behaviors refuses.
+pub fn as_one_unless(
+    alloc: Global,
+    refused: bool,
+    formulas: List<Formula>,
+) -> Result<List<Formula>, NoMemory>
+    ensures { IfOk result (λ made. map formula_tree made ≡ spec.as_one_unless refused (map formula_tree formulas)) }
+{
+    if refused {
+        refusal(alloc)
+    } else {
+        as_one(alloc, formulas)
+    }
 }
 
 /// A claim where a behavior's assumptions held at the function's entry, which is the state of this level; outside of behaviors nothing is assumed.
@@ -172,8 +197,9 @@ fn missing<'a, T: Texts>(
     match variable {
         Variable::Local(_) => Ok(List::new(alloc)),
         Variable::Global(_) => {
+            let refused = lacks(&frame.contract.plain.assigns, variable);
             let made = clauses_without(alloc, frame, texts, level, variable, state)?;
-            as_one(alloc, made)
+            as_one_unless(alloc, refused, made)
         }
     }
 }

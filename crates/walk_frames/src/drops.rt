@@ -46,6 +46,22 @@ fn drop_one(
     Ok(())
 }
 
+/// All temporaries are 0.
+#[tactic(auto, using(crate::proofs::Moving::none_dropped))]
+pub fn drop_all(
+    alloc: Global,
+    sizes: Sizes,
+    count: usize,
+    state: &mut State,
+) -> Result<(), NoMemory>
+    ensures { (m : sense.World) (bases : List (List ℕ)) (gs : List spec.Goal) → OnOk result (Walks bases (words.drop m (view_sizes sizes) count (λ (n : ℕ). true)) (view_state state.old) (view_state state.new) (Still gs) (Still gs) true) }
+{
+    for temporary in 0..count {
+        drop_one(alloc, sizes, temporary, true, state)?;
+    }
+    Ok(())
+}
+
 /// Temporaries that are no more used are 0.
 #[tactic(auto, using(crate::proofs::Moving::none_dropped))]
 pub fn drop_unused(

@@ -16,8 +16,8 @@ mod stores;
 
 pub use asks::{Asked, ask_all, ask_each, know_all};
 pub use claims::{assumed_at, claim_at, number_at, walk_claim};
-pub use clauses::{as_one, claim_under, write_formulas};
-pub use drops::drop_unused;
+pub use clauses::{as_one_unless, claim_under, write_formulas};
+pub use drops::{drop_all, drop_unused};
 pub use frames::{Force, Frame, Point, Texts, next_level};
 pub use items::{operand_number, walk_items, walk_value, walk_values};
 pub use laws::formulas_are_closed;

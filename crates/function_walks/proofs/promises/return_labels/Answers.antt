@@ -6,4 +6,4 @@ use Rattle.function_walks.proofs.promises.return_labels.Goals as goal
 
 pub returns : goal.returns
 returns c k texts a =
-    return_same (facts_in c.args.frame) (shape_in c.args.frame k) texts.called (texts.binders a) _ _ _ _ c.in_ok-at.at c.slots_at-now.ensures c.slots_at-before.ensures (c.in_ok-at.ensures ∙ ap result_slot c.sizes_in.ensures)
+    return_same (facts_in c.args.frame) (shape_in c.args.frame k) texts.called (texts.binders a) _ _ _ _ c.in_ok-at.at _ c.slots_at-now.ensures c.slots_at-before.ensures (c.in_ok-at.ensures ∙ ap result_slot c.sizes_in.ensures) c.kind_given.ensures

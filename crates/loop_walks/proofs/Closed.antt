@@ -15,7 +15,7 @@ use Rattle.program_steps.specs.Staying.{stays, stay_of, stays_from, all_stay}
 use Rattle.loop_words.specs.Sets.{lacks_some, lacking_in, lacking_all, some_outside, within, inside_trees}
 use Rattle.loop_words.specs.Words.{assumed_at, stay_trees, head_tree}
 use Rattle.walk_frames.specs.Asked.{AreClosed}
-use Rattle.walk_frames.proofs.Closedness.{all_so, both_closed, as_one_closed, under_closed, assumed_closed, formulas_closed}
+use Rattle.walk_frames.proofs.Closedness.{all_so, both_closed, unless_closed, under_closed, assumed_closed, formulas_closed}
 use Rattle.loop_walks.specs.Parts.{head_trees}
 use Rattle.loop_walks.proofs.Staying.{leaf_unmarked}
 
@@ -46,7 +46,7 @@ module _ (p : Facts) (s : Shape) (texts : Texts) where
 
   within_closed : (e : ℕ) (c : Contract) (w : Force) (rs : List acsl.Tree) → AreClosed (within p s texts e c w rs)
   within_closed e c of_function rs =
-      as_one_closed (lacking_in p s texts e true c.plain rs ++ lacking_all p s texts e c.behaviors rs)
+      unless_closed (lacks_some c.plain.assigns rs) (lacking_in p s texts e true c.plain rs ++ lacking_all p s texts e c.behaviors rs)
       (both_closed (lacking_in p s texts e true c.plain rs) (lacking_all p s texts e c.behaviors rs) (lacking_one e true c.plain rs) (lacking_each e c.behaviors rs))
   within_closed e c (of_loop ws d) rs = if_closed (some_outside p s texts ws d rs) false_tree refl
 

@@ -42,7 +42,7 @@ as_one_closed : (fs : List Tree) → AreClosed fs → AreClosed (as_one fs)
 as_one_closed [] h = refl
 as_one_closed (f ∷ fs) h = all_so (is_closed [] (all_of (f ∷ fs))) true (all_of_closed (f ∷ fs) h) refl
 
-unless_closed : (refused : Bool) (fs : List Tree) → AreClosed fs → AreClosed (as_one_unless refused fs)
+pub unless_closed : (refused : Bool) (fs : List Tree) → AreClosed fs → AreClosed (as_one_unless refused fs)
 unless_closed true fs h = refl
 unless_closed false fs h = as_one_closed fs h
 

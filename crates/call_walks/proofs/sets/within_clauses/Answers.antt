@@ -22,4 +22,4 @@ returns g c k =
         c.in_ok-push_inclusions.ensures k ∙ ap (λ bs. map formula_tree c.push_inclusion.new.made ++ joined (by false) (map view_behavior bs)) slice
         ∙ ap (λ fs. fs ++ joined (by false) (map view_behavior c.args.frame.contract.now.behaviors)) (c.in_ok-push_inclusion.ensures k ∙ ap (λ fs. map formula_tree fs ++ by true plain) c.new-made.ensures)
     in
-    c.in_ok-one.ensures ∙ (λ i. as_one_unless (c.refuses.ensures i) (clauses i))
+    c.in_ok-one.ensures ∙ (λ i. as_one_unless (c.refuses-refused.ensures i) (clauses i))

@@ -15,7 +15,5 @@ mod slots;
 
 pub use formulas::{claim_of, formula_of, number_of};
 pub use laws::{annotations_are_closed, annotations_are_filled};
-pub use readings::{
-    Called, GlobalName, Locals, Named, Reading, Seen, SlotAt, kind_given,
-};
+pub use readings::{Called, GlobalName, Locals, Named, Reading, Seen, SlotAt, kind_given};
 pub use slots::Held;

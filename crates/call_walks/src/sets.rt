@@ -25,7 +25,9 @@ use qed_terms::Formula;
 use std::alloc::Global;
 use step_walks::State;
 use typed_prog::Variable;
-use walk_frames::{Force, Frame, Labels, Texts, as_one_unless, assumed_in, claim_under, has_variable};
+use walk_frames::{
+    Force, Frame, Labels, Texts, as_one_unless, assumed_in, claim_under, has_variable,
+};
 use wp_base::{List, NoMemory};
 
 // ---- regions

@@ -19,7 +19,7 @@ returns g c k =
     let slice : c.as_slice-behaviors.result.now ≡ c.args.frame.contract.now.behaviors = search (rules, c.as_slice-behaviors.ensures) in
     let plain = view_behavior c.args.frame.contract.now.plain in
     let clauses =
-        c.in_ok-push_inclusions.ensures k ∙ ap (λ bs. map formula_tree c.push_inclusion.new.made ++ joined (by false) (map view_behavior bs)) slice
-        ∙ ap (λ fs. fs ++ joined (by false) (map view_behavior c.args.frame.contract.now.behaviors)) (c.in_ok-push_inclusion.ensures k ∙ ap (λ fs. map formula_tree fs ++ by true plain) c.new-made.ensures)
+    c.in_ok-push_inclusions.ensures k ∙ ap (λ bs. map formula_tree c.push_inclusion.new.made ++ joined (by false) (map view_behavior bs)) slice
+    ∙ ap (λ fs. fs ++ joined (by false) (map view_behavior c.args.frame.contract.now.behaviors)) (c.in_ok-push_inclusion.ensures k ∙ ap (λ fs. map formula_tree fs ++ by true plain) c.new-made.ensures)
     in
     c.in_ok-one.ensures ∙ (λ i. as_one_unless (c.refuses-refused.ensures i) (clauses i))

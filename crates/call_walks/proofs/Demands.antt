@@ -28,7 +28,7 @@ use Rattle.walk_frames.specs.declared.readings.Labels.{Labels}
 use Rattle.walk_frames.specs.Labelled.{reading_in, claimed_in, number_in, assumed_in}
 use Rattle.call_walks.specs.Claimed.{joined, claims_in, required_by, required_in, promised_by, promised_in, lower_in, stay_in, stays_in, all_stay_in}
 use Rattle.call_walks.specs.Sets.{unless_empty, clause_within, within_by, within, inclusion_under, inclusion_by, inclusions, asked_inclusions}
-use Rattle.call_walks.proofs.Said.{IsSaid, AreSaid, none, some, number_said, imp_said, at_most_said, less_said, equal_said, both_said, under_said, truth_said, only_said, any_said, unless_said, said_both, map_said}
+use Rattle.call_walks.proofs.Said.{IsSaid, AreSaid, none, some, number_said, imp_said, at_most_said, less_said, equal_said, both_said, under_said, truth_said, only_said, any_said, refused_said, said_both, map_said}
 use Rattle.call_walks.proofs.Levels.{leaf_said}
 use Rattle.call_walks.proofs.Callees.{Sees, claim_said, assumed_said, measure_said, caller_assumes, caller_measure}
 
@@ -92,7 +92,7 @@ module _ (p : Facts) (s : Shape) (texts : Texts) (ss : List Slots) where
         inclusions_said (b ∷ bs) = said_both (inclusion_said false b b.assigns) (inclusions_said bs)
 
         by_said : (c : Contract) (f : Force) → AreSaid ss (words.included_by p s texts g es level c f) (inclusions p texts e g.contract assumed c f)
-        by_said c of_function = unless_said (refuses g.contract c.plain.assigns) (said_both (inclusion_said true c.plain c.plain.assigns) (inclusions_said c.behaviors))
+        by_said c of_function = refused_said (refuses g.contract c.plain.assigns) (said_both (inclusion_said true c.plain c.plain.assigns) (inclusions_said c.behaviors))
         by_said c (of_loop ws d) = some (included_said ws) none
 
         unless_said : (o : Option (List acsl.Tree)) {fs us : List Tree} → AreSaid ss fs us → AreSaid ss (words.unless_nothing p s texts g es o fs) (unless_empty o us)

@@ -81,9 +81,9 @@ module _ {ss : List Slots} where
   one_said none = none
   one_said (some a as_) = some (all_said (some a as_)) none
 
-  pub unless_said : (refused : Bool) {ts us : List Tree} → AreSaid ss ts us → AreSaid ss (as_one_unless refused ts) (as_one_unless refused us)
-  unless_said true as_ = some false_said none
-  unless_said false as_ = one_said as_
+  pub refused_said : (refused : Bool) {ts us : List Tree} → AreSaid ss ts us → AreSaid ss (as_one_unless refused ts) (as_one_unless refused us)
+  refused_said true as_ = some false_said none
+  refused_said false as_ = one_said as_
 
   pub said_both : {ts us vs ws : List Tree} → AreSaid ss ts us → AreSaid ss vs ws → AreSaid ss (ts ++ vs) (us ++ ws)
   said_both none b = b

@@ -1,0 +1,12 @@
+pub mod State
+pub mod Forms
+pub mod Step
+pub mod Run
+pub mod World
+pub mod Join
+pub mod Renew
+pub mod Walk
+pub mod Laws
+pub mod Readings
+pub mod Examples
+pub mod Texts

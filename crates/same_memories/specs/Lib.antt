@@ -1,0 +1,4 @@
+pub mod Canonical
+pub mod Alike
+pub mod Laws
+pub mod Examples

@@ -82,7 +82,7 @@ module _ (p : Facts) (xs : List Variable) (all : list_all is_integer xs ≡ true
       → Opened p xs (x ∷ ys) w (entered p xs ys (variable_made p x o w))
   opens_one x ys w rest None e = unknown e (rest w)
   opens_one x ys w rest (Some v) e = on_bool v.has_value
-      (λ t. with_value e t (rest (variable_made p x (Some v) w)))
+      (λ t. with_value e t (and_parts v.is_plain (are_one_integer v.layout.cells) (listed_integer xs all x v e)).0 (rest (variable_made p x (Some v) w)))
       (λ t.
       let both = and_parts v.is_plain (are_one_integer v.layout.cells) (listed_integer xs all x v e) in
       let cell_is = cell_of_integer v.layout.cells both.1 in

@@ -79,9 +79,14 @@ module _ (p : Facts) (integers : list_all is_integer p.globals ≡ true) (m : Me
     module _ (here : Here) (gs : List Granted) (l : Loop) (ss : Steps) (w : World) (f : ℕ → Bool) (free : (x : ℕ) → l.declared ≤ x → (f x ≡ false) ⊎ (some_sets ss x ≡ false))
         (agrees : Agrees p (own_loop p (record here { granted = gs }) l w).granted (in_loop p here l w).granted) (st after : State) (scoped : IsScoped p s f st)
         (kept : Kept p s (in_loop p here l w).granted (some_sets ss) (some_temps ss) f st after) where
-      head_cells : (k : CellKind) (b o : ℤ) → may_change (own_loop p (record here { granted = gs }) l w).granted k b o ≡ false → cell_in (sizes p s) m.cells after b o ≡ cell_in (sizes p s) m.cells st b o
-      head_cells k (pos n) o h = refl
-      head_cells k (negsuc n) o h = by (nat_lt n (sizes p s).globals && is_zero o) refl where
+      head_cells : (k : CellKind) (b o : ℤ) → is_cell k m.blocks b o ≡ true → may_change (own_loop p (record here { granted = gs }) l w).granted k b o ≡ false
+          → cell_in (sizes p s) m.cells after b o ≡ cell_in (sizes p s) m.cells st b o
+      head_cells k (pos n) o is h = refl
+      head_cells k (negsuc n) o is h = absurd (no_negative k m.blocks n o is)
+
+      head_hidden : (n : ℕ) (o : ℤ) → may_change_global (own_loop p (record here { granted = gs }) l w).granted n ≡ false
+          → cell_in (sizes p s) m.cells after (negsuc n) o ≡ cell_in (sizes p s) m.cells st (negsuc n) o
+      head_hidden n o h = by (nat_lt n (sizes p s).globals && is_zero o) refl where
         by : (b : Bool) → (nat_lt n (sizes p s).globals && is_zero o) ≡ b → (if b then held after (value_slot n) else m.cells (negsuc n) o) ≡ (if b then held st (value_slot n) else m.cells (negsuc n) o)
         by true e =
             let t = (and_parts (nat_lt n (sizes p s).globals) (is_zero o) e).0 in
@@ -117,8 +122,9 @@ module _ (p : Facts) (integers : list_all is_integer p.globals ≡ true) (m : Me
         good = good_state after kept.fit;
         blocks = same_blocks m.blocks;
         cells = head_cells;
+        hidden = head_hidden;
         locals = head_locals l.assigns refl;
-        plain = λ x v e is may. local_goes_on st after kept.fit (λ x le h. kept.rises x le h) x v e;
+        plain = λ x v e is before may. local_goes_on st after kept.fit (λ x le h. kept.rises x le h) x v e;
         inner = λ x d. local_same st after x (λ le. inner_same x le d);
         homes = λ x v e not_plain. absurd (false≢true (sym not_plain ∙ (and_parts v.is_plain (are_one_integer v.layout.cells) (listed_integer s.variables all x v e)).0));
         temporaries = λ n h. ap number (kept.temporaries n h);

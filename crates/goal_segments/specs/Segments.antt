@@ -1,6 +1,6 @@
 -- Segment runs: a function's statements told step by step, of which its goals are made. A loop goes on in whatever state its annotations allow, and one pass of
 -- it is told; a call goes on in whatever state its contract allows. A single statement does what it does in a run, under the set in force.
-use Rattle.std.specs.Prelude.{◌≡◌, ◌≤◌, ℕ, zero, suc, Bool, true, false, ◌||◌, if◌then◌else◌, ℤ, pos, int_le, List, [], ◌∷◌, Option, Some, None, slice_get}
+use Rattle.std.specs.Prelude.{◌≡◌, ◌<◌, ◌≤◌, ℕ, zero, suc, Bool, true, false, ◌||◌, if◌then◌else◌, ℤ, pos, negsuc, int_le, List, [], ◌∷◌, Option, Some, None, slice_get}
 use Rattle.std.specs.List.{list_all}
 use Rattle.wp_base.specs.declared.kinds.CellKind.{CellKind}
 use Rattle.wp_base.specs.declared.kinds.CellKind.TheVariants as cell
@@ -25,12 +25,13 @@ use Rattle.core_checks.specs.Run as run
 use Rattle.core_checks.specs.Run.{is_met_in}
 use Rattle.segments.specs.Segments.{Asks, BlockEnds, Leaves, BodyEnds, behind_call}
 use Rattle.plain_runs.specs.Fitting.{IsGood}
-use Rattle.plain_runs.specs.Kept.{some_sets, some_temps}
+use Rattle.plain_runs.specs.Kept.{may_change_global, some_sets, some_temps}
 use Rattle.goal_segments.specs.Sets.{own_loop, loop_inside, call_inside}
 
 -- ---- a block that is entered
 
--- What was never set is any integer at all, or leads to any block that was made or not; it is never read before it is set. Cells hold values of their kinds.
+-- What was never set is any integer at all, or leads to any block that was made or not; it is never read before it is set. Cells of a block hold any values of
+-- their kinds at first, also where the variable gets its value later, where it is declared.
 abbrev pub IsAny : CellKind → Value → Type 0
 IsAny (cell.Of k) v = (z : ℤ) × (v ≡ number z)
 IsAny cell.Ptr v = (b : ℤ) × (o : ℤ) × (v ≡ pointer b o) × (int_le (pos 0) b ≡ true)
@@ -38,13 +39,13 @@ IsAny cell.Ptr v = (b : ℤ) × (o : ℤ) × (v ≡ pointer b o) × (int_le (pos
 pub data Opened (p : Facts) (xs : List Variable) : List ℕ → World → World → Type 0 where
   all_opened : {w : World} → Opened p xs [] w w
   unknown : {x : ℕ} {ys : List ℕ} {w u : World} → slice_get xs x ≡ None → Opened p xs ys w u → Opened p xs (x ∷ ys) w u
-  with_value : {x : ℕ} {ys : List ℕ} {v : Variable} {w u : World} → slice_get xs x ≡ Some v → v.has_value ≡ true → Opened p xs ys (variable_made p x (Some v) w) u
+  with_value : {x : ℕ} {ys : List ℕ} {v : Variable} {w u : World} → slice_get xs x ≡ Some v → v.has_value ≡ true → v.is_plain ≡ true → Opened p xs ys (variable_made p x (Some v) w) u
       → Opened p xs (x ∷ ys) w u
   not_set : {x : ℕ} {ys : List ℕ} {v : Variable} {w u : World} → slice_get xs x ≡ Some v → v.has_value ≡ false → v.is_plain ≡ true
       → (held : Value) → IsAny (scalar_of v.layout.cells) held → (contents : List Value) → Opened p xs ys (with_local x (plain held false) (record w { contents = contents })) u
       → Opened p xs (x ∷ ys) w u
-  with_cells : {x : ℕ} {ys : List ℕ} {v : Variable} {w u : World} → slice_get xs x ≡ Some v → v.has_value ≡ false → v.is_plain ≡ false
-      → (contents : List Value) → Opened p xs ys (block_made p x v (record w { contents = contents })) u → Opened p xs (x ∷ ys) w u
+  with_cells : {x : ℕ} {ys : List ℕ} {v : Variable} {w u : World} → slice_get xs x ≡ Some v → v.is_plain ≡ false
+      → (contents : List Value) → Opened p xs ys (block_made p x (record v { has_value = false }) (record w { contents = contents })) u → Opened p xs (x ∷ ys) w u
 
 -- ---- states to go on in
 
@@ -77,10 +78,14 @@ own_regions (Some ts) (g ∷ gs) = Some g.regions
 pub record AtHead (p : Facts) (xs : List Variable) (inside : Here) (l : Loop) (ss : Steps) (c d : CoreWorld) : Type 0 where
   pub good : IsGood p d.world.memory
   pub blocks : SameBlocks c.world.memory.blocks d.world.memory.blocks
-  pub cells : (k : CellKind) (b o : ℤ) → may_change inside.granted k b o ≡ false → d.world.memory.cells b o ≡ c.world.memory.cells b o
+  -- what may change of a cell goes by its own kind
+  pub cells : (k : CellKind) (b o : ℤ) → is_cell k c.world.memory.blocks b o ≡ true → may_change inside.granted k b o ≡ false → d.world.memory.cells b o ≡ c.world.memory.cells b o
+  -- variables of the file that no pointer leads to, which are no cells of the table
+  pub hidden : (x : ℕ) (o : ℤ) → may_change_global inside.granted x ≡ false → d.world.memory.cells (negsuc x) o ≡ c.world.memory.cells (negsuc x) o
   pub locals : (x : ℕ) → lets_at_head p inside.granted ss x (own_regions l.assigns inside.granted) ≡ false → d.world.locals x ≡ c.world.locals x
-  pub plain : (x : ℕ) (v : Variable) → slice_get xs x ≡ Some v → v.is_plain ≡ true
+  pub plain : (x : ℕ) (v : Variable) → slice_get xs x ≡ Some v → v.is_plain ≡ true → x < l.declared
       → lets_at_head p inside.granted ss x (own_regions l.assigns inside.granted) ≡ true → LocalGoesOn p d.world.memory.blocks v (c.world.locals x) (d.world.locals x)
+  -- what is declared inside of the loop is unset at its head, and what is declared behind it isn't touched
   pub inner : (x : ℕ) → l.declared ≤ x → d.world.locals x ≡ c.world.locals x
   pub homes : (x : ℕ) (v : Variable) → slice_get xs x ≡ Some v → v.is_plain ≡ false → d.world.locals x ≡ c.world.locals x
   pub temporaries : (n : ℕ) → some_temps ss n ≡ false → d.temps n ≡ c.temps n

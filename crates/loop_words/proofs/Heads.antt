@@ -1,8 +1,7 @@
 -- A world in which a loop may go on has slots, which are behind the changes at its head.
 use Rattle.std.proofs.Common.{◌≡◌, ℕ, zero, suc, ◌+◌, ◌-◌, ◌<◌, ◌≤◌, ℤ, pos, negsuc, Bool, true, false, ◌&&◌, ◌||◌, if◌then◌else◌, List, [], ◌∷◌, ◌++◌, length, Some, slice_get, refl, sym, ap, ◌∙◌, subst, inl, inr, length-append, arith}
 use Rattle.std.specs.Prelude.{nat_lt, int_le}
-use Rattle.std.proofs.lemmas.Bool.{false≢true, ltb-true, ltb-false, lt-ltb, le-leb, leb-true}
-use Rattle.wp_base.specs.declared.kinds.CellKind.TheVariants as cell
+use Rattle.std.proofs.lemmas.Bool.{false≢true, and_parts, ltb-true, ltb-false, lt-ltb, le-leb, leb-true}
 use Rattle.wp_base.specs.Blocks.{Table, count}
 use Rattle.c_kinds.specs.Models.{holds}
 use Rattle.acsl_truth.specs.States.{number, number_of}
@@ -170,7 +169,7 @@ module _ (m : sense.World) (p : Facts) (s : Shape) (texts : Texts) (setting : In
   file_same : (x : ℕ) → x < n → may_change_global own.granted x ≡ false → at after (value_slot x) ≡ at st (value_slot x)
   file_same x b none =
       let v = found p.globals x b in
-      file_now x b ∙ ap number_of (head.cells cell.Ptr (negsuc x) (pos 0) none ∙ stands.globals x v.0 v.1)
+      file_now x b ∙ ap number_of (head.hidden x (pos 0) none ∙ stands.globals x v.0 v.1)
 
   -- ---- variables of the function
 
@@ -193,11 +192,10 @@ module _ (m : sense.World) (p : Facts) (s : Shape) (texts : Texts) (setting : In
       (λ t. head.inner x (ltb-false x l.declared t))
 
   goes_on_so : (x : ℕ) (v : Variable) → slice_get s.variables x ≡ Some v → local_changes l ss x ≡ true → LocalGoesOn p d.world.memory.blocks v (c.world.locals x) (d.world.locals x)
-  goes_on_so x v e on = head.plain x v e (of_function p s setting.globals setting.integers x v e).0
-      (head_lets m p s texts setting contract pt here olds placed i outs l ss fits t0 c st stands x (found_below s.variables x v e) ∙ second (nat_lt x l.declared) (lets_local l ss x) on) where
-        second : (a b : Bool) → (a && b) ≡ true → b ≡ true
-        second true b h = h
-        second false b h = absurd (false≢true h)
+  goes_on_so x v e on =
+      let parts = and_parts (nat_lt x l.declared) (lets_local l ss x) on in
+      head.plain x v e (of_function p s setting.globals setting.integers x v e).0 (ltb-true x l.declared parts.0)
+      (head_lets m p s texts setting contract pt here olds placed i outs l ss fits t0 c st stands x (found_below s.variables x v e) ∙ parts.1)
 
   held_number : (x : ℕ) (v : Variable) (e : slice_get s.variables x ≡ Some v) (on : local_changes l ss x ≡ true)
       → (number (number_of (goes_on_so x v e on).held) ≡ (goes_on_so x v e on).held) × (holds p.model (kind_of v) (number_of (goes_on_so x v e on).held) ≡ true)

@@ -1,8 +1,8 @@
 -- Slots behind the changes at a loop's head are those of a world in which the loop may go on.
-use Rattle.std.proofs.Common.{◌≡◌, ◌⊎◌, ℕ, zero, suc, ◌<◌, ◌≤◌, ℤ, pos, negsuc, Bool, true, false, ◌&&◌, ◌||◌, if◌then◌else◌, List, ◌∷◌, length, Option, Some, None, slice_get, refl, sym, ap, ◌∙◌, subst, inl, inr, arith}
+use Rattle.std.proofs.Common.{◌≡◌, ℕ, zero, suc, ◌<◌, ◌≤◌, ℤ, pos, negsuc, Bool, true, false, ◌&&◌, ◌||◌, if◌then◌else◌, List, ◌∷◌, length, Option, Some, None, slice_get, refl, sym, ap, ◌∙◌, subst, inl, inr, arith}
 use Rattle.std.specs.Prelude.{nat_lt, int_le}
 use Rattle.std.specs.List.{list_all}
-use Rattle.std.proofs.lemmas.Bool.{false≢true, and_parts, ltb-true, ltb-false, lt-ltb, leb-true}
+use Rattle.std.proofs.lemmas.Bool.{false≢true, and_parts, ltb-true, lt-ltb, leb-true}
 use Rattle.wp_base.specs.declared.kinds.CellKind.{CellKind}
 use Rattle.wp_base.specs.Blocks.{Table, is_cell, has_layout}
 use Rattle.c_kinds.specs.Models.{holds}
@@ -31,7 +31,6 @@ use Rattle.plain_runs.specs.Fitting.{IsGood, IsFlag, Shape, sizes}
 use Rattle.plain_runs.specs.Kept.{may_change_global}
 use Rattle.plain_runs.proofs.Cells.{no_negative}
 use Rattle.plain_runs.proofs.Objects.{home_is}
-use Rattle.plain_runs.proofs.Scopes.{zero_of}
 use Rattle.plain_runs.proofs.Whole.{all_plain}
 use Rattle.program_steps.specs.Temporaries.{Temporaries, no_temporaries, all_live}
 use Rattle.program_steps.specs.Terms.{Texts}
@@ -173,9 +172,12 @@ module _ (m : sense.World) (p : Facts) (s : Shape) (texts : Texts) (setting : In
         (λ on. head_stays m p s texts setting.globals contract fits.assumes pt here olds placed c.world st sees l fits.regions after stay x below on none)
         (λ off. sym (r.file_same x below off))
 
-    cells : (k : CellKind) (b o : ℤ) → may_change inside.granted k b o ≡ false → cell_in (sizes p s) c.world.memory.cells after b o ≡ c.world.memory.cells b o
-    cells k (pos n) o h = refl
-    cells k (negsuc n) o h = by (nat_lt n (sizes p s).globals && is_zero o) refl where
+    cells : (k : CellKind) (b o : ℤ) → is_cell k c.world.memory.blocks b o ≡ true → may_change inside.granted k b o ≡ false → cell_in (sizes p s) c.world.memory.cells after b o ≡ c.world.memory.cells b o
+    cells k (pos n) o is h = refl
+    cells k (negsuc n) o is h = absurd (no_negative k c.world.memory.blocks n o is)
+
+    hidden : (n : ℕ) (o : ℤ) → may_change_global inside.granted n ≡ false → cell_in (sizes p s) c.world.memory.cells after (negsuc n) o ≡ c.world.memory.cells (negsuc n) o
+    hidden n o h = by (nat_lt n (sizes p s).globals && is_zero o) refl where
       by : (b : Bool) → (nat_lt n (sizes p s).globals && is_zero o) ≡ b → (if b then held after (value_slot n) else c.world.memory.cells (negsuc n) o) ≡ c.world.memory.cells (negsuc n) o
       by true e =
           let both = and_parts (nat_lt n (sizes p s).globals) (is_zero o) e in
@@ -211,29 +213,19 @@ module _ (m : sense.World) (p : Facts) (s : Shape) (texts : Texts) (setting : In
         (flag_is x v e) (r.flags x (found_below s.variables x v e) on).more))
         (λ off. ap (is_equal (pos 1)) (sym (r.flags_same x (found_below s.variables x v e) off)) ∙ was)
 
-    -- what may change holds a number of its kind, be it inside of the loop, where it isn't in scope
-    let_holds : (x : ℕ) (v : Variable) → slice_get s.variables x ≡ Some v → lets_local l ss x ≡ true → holds p.model (kind_of v) (at after (local_value (sizes p s) x)) ≡ true
-    let_holds x v e may = on_bool (nat_lt x l.declared)
-        (λ t. r.own x v e (λ j. t j && may j))
-        (λ t. let off = ap (λ b. b && lets_local l ss x) t in by off (fits.inner x (behind t)))
-      where
-        behind : nat_lt x l.declared ≡ false → l.declared ≤ x
-        behind t = ltb-false x l.declared t
+    -- what may change holds a number of its kind
+    let_holds : (x : ℕ) (v : Variable) → slice_get s.variables x ≡ Some v → x < l.declared → lets_local l ss x ≡ true → holds p.model (kind_of v) (at after (local_value (sizes p s) x)) ≡ true
+    let_holds x v e before may = r.own x v e (λ j. lt-ltb x l.declared before j && may j)
 
-        by : changes x ≡ false → (i x ≡ false) ⊎ (lets_local l ss x ≡ false) → holds p.model (kind_of v) (at after (local_value (sizes p s) x)) ≡ true
-        by off (inl out) =
-            ap (holds p.model (kind_of v)) (sym (r.own_same x (found_below s.variables x v e) off) ∙ (stands.unscoped x (found_below s.variables x v e) out).0) ∙ zero_of p.model (kind_of v)
-        by off (inr none) = absurd (false≢true (sym none ∙ may))
-
-    goes_on_so : (x : ℕ) (v : Variable) → slice_get s.variables x ≡ Some v → lets_at_head p inside.granted ss x (own_regions l.assigns inside.granted) ≡ true
+    goes_on_so : (x : ℕ) (v : Variable) → slice_get s.variables x ≡ Some v → x < l.declared → lets_at_head p inside.granted ss x (own_regions l.assigns inside.granted) ≡ true
         → LocalGoesOn p c.world.memory.blocks v (c.world.locals x) (locals_now x)
-    goes_on_so x v e may = record {
+    goes_on_so x v e before may = record {
       held = held after (local_value (sizes p s) x);
       is_set = is_equal (pos 1) (at after (local_flag (sizes p s) x));
       same = local_now x v e;
       stays = set_stays x v e;
       fits = ap (λ d. is_value p c.world.memory.blocks d (held after (local_value (sizes p s) x))) (of_function p s setting.globals setting.integers x v e).1
-          ∙ let_holds x v e (sym (head_lets x (found_below s.variables x v e)) ∙ may);
+          ∙ let_holds x v e before (sym (head_lets x (found_below s.variables x v e)) ∙ may);
       leads = refl;
     }
 
@@ -242,8 +234,9 @@ module _ (m : sense.World) (p : Facts) (s : Shape) (texts : Texts) (setting : In
       good = good_memory p s setting.globals setting.integers c.world.memory stands.good after file_holds;
       blocks = same_blocks c.world.memory.blocks;
       cells = cells;
+      hidden = hidden;
       locals = λ x h. local_kept x (λ below. off_unlet x (sym (head_lets x below) ∙ h));
-      plain = λ x v e is may. goes_on_so x v e may;
+      plain = λ x v e is before may. goes_on_so x v e before may;
       inner = λ x d. local_kept x (λ below. off_inside x d);
       homes = λ x v e not_plain. absurd (false≢true (sym not_plain ∙ (of_function p s setting.globals setting.integers x v e).0));
       temporaries = λ n h. refl;

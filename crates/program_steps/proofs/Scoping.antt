@@ -187,7 +187,7 @@ module _ (m : sense.World) (p : Facts) (s : Shape) (globals : list_all is_intege
       → Entered ys i c u st
   enters _ i c _ _ st all_opened stands d = record { after = st; runs = λ n. seg.skips; stands = stands }
   enters _ i c w u st (unknown {x} {ys} e rest) stands d = let v = found_at s.variables x d.1 in absurd (none_some v.0 (sym e ∙ v.1))
-  enters _ i c w u st (with_value {x} {ys} {v} e has rest) stands d =
+  enters _ i c w u st (with_value {x} {ys} {v} e has is_plain rest) stands d =
       one_more x ys i c u st (with_variable ((sizes p s).globals + x) (pos 0) (pos 1) st) v e (λ n. valued_run i c w st stands x v e has n)
       (enters ys (with_name x i) c (variable_made p x (Some v) w) u (with_variable ((sizes p s).globals + x) (pos 0) (pos 1) st) rest (valued i c w st stands x v e has) d.2)
   enters _ i c w u st (not_set {x} {ys} {v} e has is_plain held any contents rest) stands d =
@@ -196,7 +196,7 @@ module _ (m : sense.World) (p : Facts) (s : Shape) (globals : list_all is_intege
       (enters ys (with_name x i) c (with_local x (plain held false) (record w { contents = contents })) u (with_variable ((sizes p s).globals + x) z.0 (pos 0) st) rest
       (subst (λ h. StandsFor p s t0 (with_name x i) g (in_world c (with_local x (plain h false) (record w { contents = contents }))) (with_variable ((sizes p s).globals + x) z.0 (pos 0) st)) (sym z.1)
       (any_valued i c w st stands x v e has z.0 contents)) d.2)
-  enters _ i c w u st (with_cells {x} {ys} {v} e has not_plain contents rest) stands d = absurd (false≢true (sym not_plain ∙ (of_function p s globals integers x v e).0))
+  enters _ i c w u st (with_cells {x} {ys} {v} e not_plain contents rest) stands d = absurd (false≢true (sym not_plain ∙ (of_function p s globals integers x v e).0))
 
   -- and back
   pub record Found (ys : List ℕ) (i : ℕ → Bool) (c : CoreWorld) (w : World) (e : End) : Type 0 where
@@ -236,7 +236,7 @@ module _ (m : sense.World) (p : Facts) (s : Shape) (globals : list_all is_intege
           → Found ys (with_name x i) c w' e) → Found (x ∷ ys) i c w e
       further v found mid r (inl h) rest =
           let a = rest (variable_made p x (Some v) w) mid r (subst (StandsFor p s t0 (with_name x i) g (in_world c (variable_made p x (Some v) w))) (goes_parts h.1) (valued i c w st stands x v found h.0)) in
-          record { world = a.world; after = a.after; is = a.is; opens = with_value found h.0 a.opens; stands = a.stands }
+          record { world = a.world; after = a.after; is = a.is; opens = with_value found h.0 (of_function p s globals integers x v found).0 a.opens; stands = a.stands }
       further v found mid r (inr h) rest =
           let parts = of_function p s globals integers x v found in
           let a = rest (with_local x (plain (number h.1.0) false) (record w { contents = w.contents })) mid r

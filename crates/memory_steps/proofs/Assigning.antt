@@ -45,7 +45,7 @@ base_sort (b ∷ bases) zero = by b.is_memory refl
     by false e = sym e
 base_sort (b ∷ bases) (suc i) = base_sort bases i
 
-put_sorts : (bases : List Base) (ds : List Datum) (i : ℕ) (d : Datum) → HaveSorts bases ds → HasSort (sort_at bases i) d → HaveSorts bases (put ds i d)
+pub put_sorts : (bases : List Base) (ds : List Datum) (i : ℕ) (d : Datum) → HaveSorts bases ds → HasSort (sort_at bases i) d → HaveSorts bases (put ds i d)
 put_sorts [] [] i d h k = tt
 put_sorts [] (x ∷ ds) i d h k = absurd h
 put_sorts (b ∷ bases) [] i d h k = absurd h

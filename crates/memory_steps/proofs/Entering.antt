@@ -4,11 +4,12 @@ use Rattle.std.proofs.lemmas.Bool.{le-leb}
 use Rattle.std.specs.Str.{bytes_eq}
 use Rattle.std.proofs.lemmas.Slice.Eq.{bytes_eq-Decides}
 use Rattle.wp_base.specs.Blocks.{Table, block_at, len}
-use Rattle.qed_terms.specs.Memory.{load}
 use Rattle.qed_terms.specs.Fresh.{none_used}
 use Rattle.qed_terms.specs.Meaning as sense
 use Rattle.qed_terms.specs.Meaning.{Value, Whole, Cells, whole, memory, Values}
 use Rattle.qed_terms.specs.Setting.{cells_at_most, IsBounded}
+use Rattle.same_memories.specs.Canonical.{canonical}
+use Rattle.same_memories.proofs.Listing.{canonical_is_canonical}
 use Rattle.walk_steps.proofs.Asking.{Holds}
 use Rattle.walk_steps.proofs.Naming.{bytes_same}
 use Rattle.memory_steps.specs.State.{Datum, number, cells, State, state, Base, HasSort, HaveSorts, FitsOne}
@@ -17,6 +18,7 @@ use Rattle.memory_steps.specs.World.{AreBases, name_for}
 use Rattle.memory_steps.specs.Laws.{Origin, own, fixed, Start, IsFrom, most_cells, start_terms, table_name, start_slots, Away, OriginsFit, start_world}
 use Rattle.memory_steps.proofs.Asking.{claims_so, so_claims}
 use Rattle.memory_steps.proofs.Naming.{Agree, same_agree, bring, bring_new, name_same, name_sort}
+use Rattle.memory_steps.proofs.Trails.{blocks_same}
 use Rattle.memory_steps.proofs.Settled.{Settled, Steady, Sound}
 
 -- ---- values with few cells
@@ -48,7 +50,7 @@ table_there t = ap (λ y. cond y t []) (bytes_same table_name)
 
 fits_value : (s : Bool) (d : Datum) → FitsOne s d → (v : Value) × (datum_of v ≡ d) × HasSort s (datum_of v)
 fits_value true (number z) h = absurd h
-fits_value true (cells f) h = (Cells h.0, ap cells h.1, tt)
+fits_value true (cells f) h = (Cells f, ap cells h, tt)
 fits_value false (number z) h = (Whole z, refl, tt)
 fits_value false (cells f) h = absurd h
 
@@ -65,7 +67,7 @@ tables_kept false env x v = refl
 
 module _ (m : sense.World) where
   other_name : (s r : Bool) (env : Values) (x y : List ℕ) (v : Value) → (x ≡ y → ⊥) → datum m (bring s env x v) (name_for r y) ≡ datum m env (name_for r y)
-  other_name true true env x y v n = ap (λ t. cells (load (cond t (memory v) (env.memories y)))) (not_same x y n)
+  other_name true true env x y v n = ap (λ t. cells (canonical (cond t (memory v) (env.memories y)))) (not_same x y n)
   other_name true false env x y v n = refl
   other_name false true env x y v n = refl
   other_name false false env x y v n = ap (λ t. number (cond t (whole v) (env.ints y))) (not_same x y n)
@@ -108,7 +110,7 @@ module _ (m : sense.World) where
   start_met env (b ∷ bases) (fixed z ∷ os) (d ∷ ds) l f h = ap₂ (λ y ys. y ∷ ys) (sym f.0) (start_met env bases os ds (cc) f.1 h)
 
   own_fits : (s : Bool) (env : Values) (x : List ℕ) → FitsOne s (datum m env (name_for s x))
-  own_fits true env x = (env.memories x, refl)
+  own_fits true env x = canonical_is_canonical (env.memories x)
   own_fits false env x = tt
 
   pub start_from : (env : Values) (bases : List Base) (os : List Origin) → length os ≡ length bases → IsFrom bases os (data_of m env (start_terms bases os))
@@ -144,8 +146,8 @@ module _ (m : sense.World) where
     start_sound : Sound m none_used (start_slots bases e.origins)
     start_sound = record {
       same = λ env env' a. ap₂ (λ ds t. state ds t) (start_same env env' a bases i e.origins) (ap (λ f. f table_name) a.tables);
-      marks = λ env env' a. refl;
-      trailed = λ env. tt;
+      marks = λ env env' a. ap (λ f. f table_name ∷ []) a.tables;
+      trailed = λ env. (blocks_same (env.tables table_name), tt);
     }
 
     start_clean : AreClean m (start_slots bases e.origins ∷ [])

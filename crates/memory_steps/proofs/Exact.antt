@@ -13,10 +13,12 @@ use Rattle.memory_steps.specs.State.{State, state, Base}
 use Rattle.memory_steps.specs.Forms.{state_of}
 use Rattle.memory_steps.specs.Step.{Step, count}
 use Rattle.memory_steps.specs.Run.{fails}
+use Rattle.memory_steps.specs.Walk.{walk}
 use Rattle.memory_steps.specs.Laws.{Start, AreFit, table_name, start_slots, start_world, goals, Fails, NoneFailsAt, Refuted, GoalsAreTheChecks, GoalsAreNumbered, GoalsAreExact, FalsifiedDecode, FailuresHaveGoals}
 use Rattle.memory_steps.proofs.Walking.{to_run}
 use Rattle.memory_steps.proofs.Reaching.{from_run}
 use Rattle.memory_steps.proofs.Numbers.{walk_numbered}
+use Rattle.memory_steps.proofs.Bracketed.{bracketed_steps_meet}
 use Rattle.memory_steps.proofs.Entering.{bounded_too, with_table, table_bounded, table_there, start_values, start_met, start_from, nothing_remembered, start_settled, facts_known, facts_so}
 
 pub goals_are_the_checks : GoalsAreTheChecks
@@ -29,10 +31,13 @@ module _ (s : Setting) (bases : List Base) (e : Start) (a : Step) (fit : AreFit 
   abbrev m : sense.World
   m = world_of s
 
+  meets : (walk bases [] zero a none_used (start_world bases e)).fits ≡ true
+  meets = bracketed_steps_meet bases e a fit.bracketed
+
   fails_at : (g : Goal) → In g (goals bases e a) → (env : Values) → IsBounded s.long_bits env → Falsified m env g → Fails s bases e a (state_of m env (start_slots bases e.origins)) g.number
   fails_at g i env b f =
       let settled = start_settled m bases e fit.size fit.names fit.origins fit.facts in
-      let r = to_run m bases fit.names a fit.step [] zero none_used (start_world bases e) settled (nothing_remembered m) fit.meets env (fails g.number)
+      let r = to_run m bases fit.names a fit.step [] zero none_used (start_world bases e) settled (nothing_remembered m) meets env (fails g.number)
       (g, i, record { number = refl; falsified = f }) in (
         record {
           from = start_from m env bases e.origins fit.size;
@@ -55,7 +60,7 @@ module _ (s : Setting) (bases : List Base) (e : Start) (a : Step) (fit : AreFit 
       let same : state_of m v.0 (start_slots bases e.origins) ≡ st = ap₂ (λ ds t. state ds t) slots table in
       let known = facts_known m bases e fit.size fit.names fit.origins fit.facts v.0 st same f.0.facts in
       let settled = start_settled m bases e fit.size fit.names fit.origins fit.facts in
-      let x = from_run m bases fit.names f.1 fit.step [] none_used w settled (nothing_remembered m) fit.meets v.0 (record { known = known; state = same }) (record { same = refl }) in (
+      let x = from_run m bases fit.names f.1 fit.step [] none_used w settled (nothing_remembered m) meets v.0 (record { known = known; state = same }) (record { same = refl }) in (
         x.2.0,
         x.2.1,
         x.2.2.number,

@@ -152,7 +152,8 @@ pub goals_are_well_formed : GoalsAreWellFormed
 goals_are_well_formed bases e a size fit names facts writes g i =
     let k = keeps bases names in
     let ss : Written bases IsNumberTerm IsMemoryTerm IsTableTerm IsFormula k (start_slots bases e.origins) =
-    record { terms = start_fine bases names e.origins size fit; table = table_fits table_name known_names.2; trail = tt }
+    let t = table_fits table_name known_names.2 in
+    record { terms = start_fine bases names e.origins size fit; table = t; trail = (t, tt) }
     in
     let w : Fine bases IsNumberTerm IsMemoryTerm IsTableTerm IsFormula k (start_world bases e) =
     record { known = claims_fine bases IsNumberTerm IsMemoryTerm IsTableTerm IsFormula k e.facts facts (start_slots bases e.origins ∷ []) (ss, tt); slots = ss }

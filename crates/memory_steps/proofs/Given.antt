@@ -102,7 +102,7 @@ goals_have_given_names bases e a size facts writes g i =
     let P = NamesAreGiven bases in
     let k = keeps bases in
     let ss : written.Written bases P P P P k (start_slots bases e.origins) =
-    record { terms = start_fine bases bases (λ b i. i) e.origins size; table = table_fine bases; trail = tt }
+    record { terms = start_fine bases bases (λ b i. i) e.origins size; table = table_fine bases; trail = (table_fine bases, tt) }
     in
     let w : written.Fine bases P P P P k (start_world bases e) =
     record { known = claims_fine bases P P P P k e.facts facts (start_slots bases e.origins ∷ []) (ss, tt); slots = ss }

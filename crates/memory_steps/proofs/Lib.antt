@@ -15,6 +15,8 @@ pub mod Reaching
 pub mod Numbers
 pub mod Entering
 pub mod Exact
+pub mod Bracketed
+pub mod Words
 pub mod Readings
 pub mod Worked
 pub mod Written

@@ -1,11 +1,11 @@
 -- What equalities of fresh names say.
-use Rattle.std.proofs.Common.{◌≡◌, Bool, true, false, ℤ, pos, refl, sym, ap, ◌∙◌}
+use Rattle.std.proofs.Common.{◌≡◌, Bool, true, false, ℤ, pos, [], refl, sym, ap, ◌∙◌}
 use Rattle.qed_terms.specs.Tree.{Tree}
-use Rattle.qed_terms.specs.Memory.{same_memory}
+use Rattle.qed_terms.specs.Memory.{Memory, same_memory}
 use Rattle.qed_terms.specs.Operators.{is_equal}
 use Rattle.qed_terms.specs.Meaning as sense
 use Rattle.qed_terms.specs.Meaning.{Value, Whole, Truth, Cells, Blocks, whole, memory, Values, meaning, truth}
-use Rattle.typed_memories.proofs.Entries.{maps_are}
+use Rattle.same_memories.proofs.Listing.{same_is_one_list}
 use Rattle.walk_steps.proofs.Linking.{equal_same, same_equal}
 use Rattle.memory_steps.specs.State.{Datum, number, cells, HasSort}
 use Rattle.memory_steps.specs.Forms.{datum_of, datum}
@@ -13,11 +13,11 @@ use Rattle.memory_steps.specs.World.{is_same}
 
 abbrev number_in : Datum → ℤ
 number_in (number z) = z
-number_in (cells f) = pos 0
+number_in (cells m) = pos 0
 
-abbrev cells_in : Datum → (block offset : ℤ) → ℤ
-cells_in (number z) b o = pos 0
-cells_in (cells f) b o = f b o
+abbrev cells_in : Datum → Memory
+cells_in (number z) = []
+cells_in (cells m) = m
 
 pub number_is : (v : Value) → HasSort false (datum_of v) → datum_of v ≡ number (whole v)
 number_is (Whole z) h = refl
@@ -31,7 +31,7 @@ are_same false v w = is_equal (whole v) (whole w)
 
 told_value : (s : Bool) (v w : Value) → HasSort s (datum_of v) → HasSort s (datum_of w) → are_same s v w ≡ true → datum_of v ≡ datum_of w
 told_value false v w h k e = number_is v h ∙ ap number (equal_same (whole v) (whole w) e) ∙ sym (number_is w k)
-told_value true (Cells n) (Cells o) h k e = ap cells ((maps_are.same n o).0 e)
+told_value true (Cells n) (Cells o) h k e = ap cells ((same_is_one_list n o).0 e)
 told_value true (Cells n) (Whole z) h k e = absurd k
 told_value true (Cells n) (Truth b) h k e = absurd k
 told_value true (Cells n) (Blocks t) h k e = absurd k
@@ -41,7 +41,7 @@ told_value true (Blocks t) w h k e = absurd h
 
 value_told : (s : Bool) (v w : Value) → HasSort s (datum_of v) → HasSort s (datum_of w) → datum_of v ≡ datum_of w → are_same s v w ≡ true
 value_told false v w h k e = same_equal (whole v) (whole w) (ap number_in (sym (number_is v h) ∙ e ∙ number_is w k))
-value_told true (Cells n) (Cells o) h k e = (maps_are.same n o).1 (ap cells_in e)
+value_told true (Cells n) (Cells o) h k e = (same_is_one_list n o).1 (ap cells_in e)
 value_told true (Cells n) (Whole z) h k e = absurd k
 value_told true (Cells n) (Truth b) h k e = absurd k
 value_told true (Cells n) (Blocks t) h k e = absurd k

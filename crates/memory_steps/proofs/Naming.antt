@@ -3,10 +3,11 @@ use Rattle.std.proofs.Common.{◌≡◌, ◌≤◌, ℕ, zero, suc, Bool, true, 
 use Rattle.std.proofs.lemmas.Slice.Eq.{bytes_eq-Decides}
 use Rattle.std.specs.Str.{bytes_eq}
 use Rattle.qed_terms.specs.Fresh.{Lacks, hash, Used}
-use Rattle.qed_terms.specs.Memory.{Memory, load}
+use Rattle.qed_terms.specs.Memory.{Memory}
 use Rattle.qed_terms.proofs.Freshness.{fresh_names_differ, fresh_names_are_new}
 use Rattle.qed_terms.specs.Meaning as sense
 use Rattle.qed_terms.specs.Meaning.{Value, Whole, Truth, Cells, Blocks, whole, memory, Values, with_int}
+use Rattle.same_memories.specs.Canonical.{canonical}
 use Rattle.walk_steps.specs.Forms.{SameBesidesBound}
 use Rattle.walk_steps.specs.World.{IsBase}
 use Rattle.walk_steps.proofs.Naming.{bytes_same, name_at, Grows, next_name, name_lacks}
@@ -77,7 +78,7 @@ module _ (m : sense.World) where
   pub bring_new : (s : Bool) (env : Values) (x : List ℕ) (v : Value) → HasSort s (datum_of v) → datum m (bring s env x v) (name_for s x) ≡ datum_of v
   bring_new true env x (Whole z) h = absurd h
   bring_new true env x (Truth b) h = absurd h
-  bring_new true env x (Cells n) h = ap (λ t. cells (load (cond t n (env.memories x)))) (bytes_same x)
+  bring_new true env x (Cells n) h = ap (λ t. cells (canonical (cond t n (env.memories x)))) (bytes_same x)
   bring_new true env x (Blocks t) h = absurd h
   bring_new false env x (Whole z) h = ap (λ t. number (cond t z (env.ints x))) (bytes_same x)
   bring_new false env x (Truth b) h = ap (λ t. number (cond t (whole (Truth b)) (env.ints x))) (bytes_same x)
@@ -87,7 +88,7 @@ module _ (m : sense.World) where
   -- a name that is used has one datum
   pub name_same : {c : Used} {env env' : Values} (s : Bool) (b : List ℕ) (k : ℕ) → Agree c env env' → IsBase b → k ≤ c b
       → datum m env (name_for s (name_at b k)) ≡ datum m env' (name_for s (name_at b k))
-  name_same true b k a i le = ap (λ n. cells (load n)) (a.memories b k i le)
+  name_same true b k a i le = ap (λ n. cells (canonical n)) (a.memories b k i le)
   name_same false b k a i le = ap number (a.ints b k i le)
 
   pub name_sort : (s : Bool) (env : Values) (x : List ℕ) → HasSort s (datum m env (name_for s x))

@@ -58,7 +58,7 @@ some_meet : (bases : List Base) (c : Used) (ws : List World) → is_some (meet b
 some_meet bases c [] = refl
 some_meet bases c (w ∷ ws) = refl
 
-differ : (x y : ℕ) → (x ≡ y → ⊥) → nat_eq x y ≡ false
+pub differ : (x y : ℕ) → (x ≡ y → ⊥) → nat_eq x y ≡ false
 differ x y n = by (nat_eq x y) refl
   where
     by : (b : Bool) → nat_eq x y ≡ b → b ≡ false
@@ -165,5 +165,5 @@ module _ (bases : List Base) where
   walk_numbered (s.remember a) olds n c w =
       let x = walk_numbered a ((marked c w).slots ∷ olds) n (use_one c mark_base) (marked c w) in record { places = x.places; numbers = x.numbers; goes = x.goes; left = x.left }
   walk_numbered s.grown olds n c w = record { places = refl; numbers = refl; goes = refl; left = λ k. refl }
-  walk_numbered (s.made l) olds n c w = record { places = refl; numbers = refl; goes = refl; left = λ k. refl }
+  walk_numbered (s.made i l) olds n c w = record { places = refl; numbers = refl; goes = refl; left = λ k. refl }
   walk_numbered (s.ended l) olds n c w = record { places = refl; numbers = refl; goes = refl; left = λ k. refl }

@@ -141,7 +141,7 @@ module _ (m : sense.World) where
     from_run {sts} {n} {st} (seg.grows y le) g olds c w q t z env h r =
         let x = grown_met m bases c w q env st y h le in
         (x.0, x.1, (_, refl, x.2))
-    from_run {sts} {n} {st} {o} (seg.makes {l}) g olds c w q t z env h r = now c (walk bases olds n (s.made l) c w) env o (_, refl, made_met m bases c l w env st h)
+    from_run {sts} {n} {st} {o} (seg.makes {i} {l}) g olds c w q t z env h r = now c (walk bases olds n (s.made i l) c w) env o (_, refl, made_met m bases c i l w env st h)
     from_run {sts} {n} {st} {o} (seg.ends {l}) g olds c w q t z env h r =
         let old = at_or w.slots olds l in
         let e : state_of m env old ≡ at_or st sts l = at_map (state_of m env) w.slots olds l ∙ ap₂ (λ x xs. at_or x xs l) h.state r.same in

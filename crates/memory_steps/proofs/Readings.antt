@@ -2,14 +2,14 @@
 use Rattle.std.proofs.Common.{◌≡◌, ◌⊎◌, ℕ, ◌+◌, ℤ, int_le, true, false, List, ◌∷◌, refl, sym, ap, ◌∙◌, subst, inl, inr, ⊎_elim, add-zero}
 use Rattle.wp_base.specs.declared.kinds.Layout.{Layout}
 use Rattle.wp_base.specs.Blocks as tables
-use Rattle.wp_base.specs.Blocks.{alloc, grow}
+use Rattle.wp_base.specs.Blocks.{grow}
 use Rattle.walk_steps.specs.State.{at_or, AllTrue, FirstFalse}
 use Rattle.memory_steps.specs.State.{Datum, State, with_slots, with_table}
 use Rattle.memory_steps.specs.Forms.{Form, Term, Check, forms, told_forms}
 use Rattle.memory_steps.specs.Step as step
 use Rattle.memory_steps.specs.Step.{Change, Step, count}
 use Rattle.memory_steps.specs.Run as seg
-use Rattle.memory_steps.specs.Run.{End, goes_on, leaves, fails, IsOver, on_state, Changes, put_back, set_in, ended_to, Seg}
+use Rattle.memory_steps.specs.Run.{End, goes_on, leaves, fails, IsOver, on_state, Changes, put_back, set_in, made_in, ended_to, Seg}
 use Rattle.memory_steps.specs.Readings.{SequencesRead, AsksRead, KnowsRead, SetsRead, ChangesRead, RemembersRead, ScopesRead, LastAsksRead, GrowthsRead, MakingsRead, EndingsRead}
 
 goes_parts : {a b : State} → goes_on a ≡ goes_on b → a ≡ b
@@ -66,7 +66,7 @@ pub grown_way : {olds : List State} {n : ℕ} {st : State} {o : End} → Seg old
     → (z : ℤ) × (int_le (tables.count st.table) z ≡ true) × (goes_on (with_table st (grow st.table z)) ≡ o)
 grown_way (seg.grows z h) = (z, h, refl)
 
-pub made_way : {olds : List State} {n : ℕ} {l : Layout} {st : State} {o : End} → Seg olds n (step.made l) st o → goes_on (with_table st (alloc st.table l)) ≡ o
+pub made_way : {olds : List State} {n i : ℕ} {l : Layout} {st : State} {o : End} → Seg olds n (step.made i l) st o → goes_on (made_in st i l) ≡ o
 made_way seg.makes = refl
 
 pub ended_way : {olds : List State} {n l : ℕ} {st : State} {o : End} → Seg olds n (step.ended l) st o → goes_on (ended_to (at_or st olds l) st) ≡ o
@@ -84,7 +84,7 @@ one_way {olds} {n} {a} {b} {st} {mid} {o} none only s = by (seq_ways s)
     by (inr (to, x, k)) =
         subst (λ n. Seg olds n b mid o) (ap (λ k. n + k) none ∙ add-zero n) (subst (λ st. Seg olds (n + count a) b st o) (sym (goes_parts (only (goes_on to) x))) k)
 
-pub makes_then : {olds : List State} {n : ℕ} {l : Layout} {b : Step} {st : State} {o : End} → Seg olds n (step.seq (step.made l) b) st o → Seg olds n b (with_table st (alloc st.table l)) o
+pub makes_then : {olds : List State} {n i : ℕ} {l : Layout} {b : Step} {st : State} {o : End} → Seg olds n (step.seq (step.made i l) b) st o → Seg olds n b (made_in st i l) o
 makes_then s = one_way refl (λ e x. made_way x) s
 
 pub ends_then : {olds : List State} {n l : ℕ} {b : Step} {st : State} {o : End} → Seg olds n (step.seq (step.ended l) b) st o → Seg olds n b (ended_to (at_or st olds l) st) o
@@ -189,7 +189,7 @@ pub growths_read : GrowthsRead
 growths_read olds n b st o = (λ s. grows_then s, λ x. seg.goes_both (seg.grows x.0 x.1) (behind x.2))
 
 pub makings_read : MakingsRead
-makings_read olds n l b st o = (λ s. makes_then s, λ x. seg.goes_both seg.makes (behind x))
+makings_read olds n i l b st o = (λ s. makes_then s, λ x. seg.goes_both seg.makes (behind x))
 
 pub endings_read : EndingsRead
 endings_read olds n l b st o = (λ s. ends_then s, λ x. seg.goes_both seg.ends (behind x))

@@ -9,6 +9,7 @@ use Rattle.qed_terms.proofs.Total.{same_exact}
 use Rattle.qed_terms.specs.Fresh.{Used, use_one}
 use Rattle.qed_terms.specs.Meaning as sense
 use Rattle.qed_terms.specs.Meaning.{Value, Whole, Truth, Cells, Blocks, Values, meaning, value, truth}
+use Rattle.same_memories.proofs.Listing.{canonical_is_canonical}
 use Rattle.walk_steps.specs.World.{IsBase}
 use Rattle.walk_steps.proofs.Lists.{cons_parts}
 use Rattle.walk_steps.proofs.Asking.{Holds, holds_front, holds_back, holds_both}
@@ -53,12 +54,12 @@ like_value : (x y : Datum) → IsLike x y → (v : Value) × (datum_of v ≡ y)
 like_value (number x) (number y) h = (Whole y, refl)
 like_value (number x) (cells g) h = absurd h
 like_value (cells f) (number y) h = absurd h
-like_value (cells f) (cells g) h = (Cells h.0, ap cells h.1)
+like_value (cells f) (cells g) h = (Cells g, ap cells h)
 
 like_itself : (v : Value) → IsLike (datum_of v) (datum_of v)
 like_itself (Whole z) = tt
 like_itself (Truth b) = tt
-like_itself (Cells n) = (n, refl)
+like_itself (Cells n) = canonical_is_canonical n
 like_itself (Blocks t) = tt
 
 -- values of one sort are alike
@@ -69,7 +70,7 @@ alike s v w h k = by s (datum_of v) w h k
     by true (number z) w h k = absurd h
     by true (cells f) (Whole z) h k = absurd k
     by true (cells f) (Truth b) h k = absurd k
-    by true (cells f) (Cells n) h k = (n, refl)
+    by true (cells f) (Cells n) h k = canonical_is_canonical n
     by true (cells f) (Blocks t) h k = absurd k
     by false (cells f) w h k = absurd h
     by false (number z) (Whole y) h k = tt

@@ -1,18 +1,21 @@
 -- Points that are passed, and steps that change the table.
-use Rattle.std.proofs.Common.{◌≡◌, ℤ, int_le, true, false, List, [], ◌∷◌, sym, ap, ap₂, ◌∙◌}
+use Rattle.std.proofs.Common.{◌≡◌, ℕ, suc, ℤ, int_le, true, false, List, [], ◌∷◌, sym, ap, ap₂, ◌∙◌, subst}
 use Rattle.wp_base.specs.declared.kinds.Layout.{Layout}
 use Rattle.wp_base.specs.Blocks.{count, alloc, grow}
 use Rattle.qed_terms.specs.Fresh.{Used, use_one}
 use Rattle.qed_terms.specs.Meaning as sense
 use Rattle.qed_terms.specs.Meaning.{Whole, Values, with_int, value}
 use Rattle.memory_changes.proofs.Tables.{grown_same}
+use Rattle.walk_steps.proofs.Lists.{put_map, put_length}
 use Rattle.walk_steps.proofs.Asking.{Holds, holds_front, holds_back, holds_both}
 use Rattle.walk_steps.proofs.Naming.{Grows, use_grows, use_itself, next_name, with_next_new}
-use Rattle.memory_steps.specs.State.{State, state, with_table, Base}
-use Rattle.memory_steps.specs.Forms.{Mark, Slots, table_of, state_of}
-use Rattle.memory_steps.specs.Run.{ended_to}
-use Rattle.memory_steps.specs.World.{World, new_name, count_base, mark_base, marked, grown_world, made_world, ended_world}
+use Rattle.memory_steps.specs.State.{State, state, with_table, Base, HasSort, HaveSorts}
+use Rattle.memory_steps.specs.Forms.{Mark, Slots, datum, data_of, table_of, state_of}
+use Rattle.memory_steps.specs.Step.{sort_at}
+use Rattle.memory_steps.specs.Run.{made_in, ended_to}
+use Rattle.memory_steps.specs.World.{World, new_name, count_base, count_of, mark_base, marked, grown_world, made_world, ended_world}
 use Rattle.memory_steps.proofs.Naming.{Agree, agree_less, bring_agrees}
+use Rattle.memory_steps.proofs.Assigning.{put_sorts}
 use Rattle.memory_steps.proofs.Settled.{Meets, Sound, terms_same, table_same, Settled}
 use Rattle.memory_steps.proofs.Trails.{blocks_same, trailed_more, trailed_here, here_same}
 use Rattle.memory_steps.proofs.Links.{count_is_base}
@@ -26,7 +29,7 @@ module _ (m : sense.World) (bases : List Base) where
   pub marked_settled : (c : Used) (w : World) → Settled m bases c w → Settled m bases (use_one c mark_base) (marked c w)
   marked_settled c w s =
       let g = mark_grows c in
-      let p : Mark = record { number = c mark_base; table = w.slots.table } in
+      let p : Mark = record { number = suc (c mark_base); table = w.slots.table } in
       record {
         size = s.size;
         sorts = s.sorts;
@@ -92,22 +95,28 @@ module _ (m : sense.World) (bases : List Base) where
 
   -- ---- a block that is made
 
-  pub made_settled : (c : Used) (l : Layout) (w : World) → Settled m bases c w → Settled m bases (use_one c mark_base) (made_world c l w)
-  made_settled c l w s =
+  pub made_state : (env : Values) (c : Used) (i : ℕ) (l : Layout) (w : World) → state_of m env (made_world c i l w).slots ≡ made_in (state_of m env w.slots) i l
+  made_state env c i l w = ap (λ ds. state ds (alloc (table_of m env w.slots.table) l)) (put_map (datum m env) w.slots.terms i (count_of w.slots.table))
+
+  pub made_settled : (c : Used) (i : ℕ) (l : Layout) (w : World) → sort_at bases i ≡ false → Settled m bases c w → Settled m bases (use_one c mark_base) (made_world c i l w)
+  made_settled c i l w e s =
       let g = mark_grows c in
+      let x = count_of w.slots.table in
       record {
-        size = s.size;
-        sorts = s.sorts;
+        size = put_length w.slots.terms i x ∙ s.size;
+        sorts = λ env.
+            subst (HaveSorts bases) (sym (put_map (datum m env) w.slots.terms i x))
+            (put_sorts bases (data_of m env w.slots.terms) i (datum m env x) (s.sorts env) (subst (λ y. HasSort y (datum m env x)) (sym e) tt));
         known = λ env env' a. s.known env env' (agree_less g a);
         slots = record {
-          same = λ env env' a. ap (λ (st : State). with_table st (alloc st.table l)) (s.slots.same env env' (agree_less g a));
+          same = λ env env' a. made_state env c i l w ∙ ap (λ st. made_in st i l) (s.slots.same env env' (agree_less g a)) ∙ sym (made_state env' c i l w);
           marks = λ env env' a. ap (λ t. alloc t l ∷ []) (table_same m s.slots env env' (agree_less g a));
           trailed = λ env. (blocks_same (alloc (table_of m env w.slots.table) l), tt);
         };
       }
 
-  pub made_met : (c : Used) (l : Layout) (w : World) (env : Values) (st : State) → Meets m env w st → Meets m env (made_world c l w) (with_table st (alloc st.table l))
-  made_met c l w env st h = record { known = h.known; state = ap (λ (st : State). with_table st (alloc st.table l)) h.state }
+  pub made_met : (c : Used) (i : ℕ) (l : Layout) (w : World) (env : Values) (st : State) → Meets m env w st → Meets m env (made_world c i l w) (made_in st i l)
+  made_met c i l w env st h = record { known = h.known; state = made_state env c i l w ∙ ap (λ st. made_in st i l) h.state }
 
   -- ---- blocks that have ended
 

@@ -26,7 +26,7 @@ use Rattle.memory_steps.proofs.Trails.{both_parts}
 use Rattle.memory_steps.proofs.Settled.{Meets, Shows, Steady, still, steady_same, sound_at, clean, Settled, later, steady_more, AllSettled}
 use Rattle.memory_steps.proofs.Assigning.{base_is_base, base_sort, Suits, set_grows, set_settled, set_ran}
 use Rattle.memory_steps.proofs.Renewing.{renewed_grows, renewed_settled, renewed_ran}
-use Rattle.memory_steps.proofs.Tabling.{mark_grows, marked_settled, count_grows, grown_settled, grown_ran, made_settled, ended_settled}
+use Rattle.memory_steps.proofs.Tabling.{mark_grows, marked_settled, count_grows, grown_settled, grown_ran, made_state, made_settled, ended_settled}
 use Rattle.memory_steps.proofs.Combining.{then_fits, arms_fits, then_either, then_settled, stays_settled, arms_either, arms_settled, block_either, block_settled, scope_either, scope_settled, left_only}
 
 module _ (m : sense.World) where
@@ -107,7 +107,7 @@ module _ (m : sense.World) where
         let v = marked_settled m bases c w h in
         from_mark c (walk_settled a g ((marked c w).slots ∷ olds) n (use_one c mark_base) (marked c w) v (steady_more m v (still m (mark_grows m bases c) t)))
     walk_settled s.grown g olds n c w h t = stays_settled m [] (count_grows m bases c) (grown_settled m bases c w h)
-    walk_settled (s.made l) g olds n c w h t = stays_settled m [] (mark_grows m bases c) (made_settled m bases c l w h)
+    walk_settled (s.made i l) g olds n c w h t = stays_settled m [] (mark_grows m bases c) (made_settled m bases c i l w g h)
     walk_settled (s.ended l) g olds n c w h t = stays_settled m [] (grows_same c) (ended_settled m bases c (at_or w.slots olds l) w h (sound_at m w.slots olds l h.slots t.all))
 
     -- ---- from values to runs
@@ -216,8 +216,9 @@ module _ (m : sense.World) where
     to_run s.grown g olds n c w q t f env o h =
         stays_ran [] (use_one c count_base.name) (grown_world c w) env (Ran env olds n s.grown w)
         (λ x. let y = grown_ran m bases c w env x in (y.0, seg.grows (value m env (new_name c count_base)) y.1)) (λ y i x z. absurd x) o h
-    to_run (s.made l) g olds n c w q t f env o h =
-        stays_ran [] (use_one c mark_base) (made_world c l w) env (Ran env olds n (s.made l) w) (λ x. (x, seg.makes)) (λ y i x z. absurd x) o h
+    to_run (s.made i l) g olds n c w q t f env o h =
+        stays_ran [] (use_one c mark_base) (made_world c i l w) env (Ran env olds n (s.made i l) w)
+        (λ x. (x, subst (λ st. Seg (states_of m env olds) n (s.made i l) (state_of m env w.slots) (goes_on st)) (sym (made_state m bases env c i l w)) seg.makes)) (λ y i x z. absurd x) o h
     to_run (s.ended l) g olds n c w q t f env o h =
         let now = state_of m env w.slots in
         let e = at_map (state_of m env) w.slots olds l in

@@ -6,4 +6,4 @@ use Rattle.memory_steps.specs.Examples.{ExampleGoals}
 
 pub example_goals : ExampleGoals
 unfolding fresh_name order.tree_cmp
-example_goals = record { stores = refl; scoped = refl; called = refl; joined = refl; refused = refl }
+example_goals = record { stores = refl; scoped = refl; called = refl; leaving = refl; joined = refl; bracketed = refl; refused = refl; unbracketed = refl }

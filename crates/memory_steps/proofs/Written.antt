@@ -326,8 +326,11 @@ module _ (bases : List Base) (Number Memory Table Formula : Tree → Type 0) (k 
         slots = record { terms = f.slots.terms; table = k.grow w.slots.table x f.slots.table n; trail = f.slots.trail };
       }
 
-  made_fine : (c : Used) (l : Layout) (w : World) → Fine w → Fine (made_world c l w)
-  made_fine c l w f = let t = k.alloc w.slots.table l f.slots.table in record { known = f.known; slots = record { terms = f.slots.terms; table = t; trail = (t, tt) } }
+  made_fine : (c : Used) (i : ℕ) (l : Layout) (w : World) → sort_at bases i ≡ false → Fine w → Fine (made_world c i l w)
+  made_fine c i l w e f =
+      let t = k.alloc w.slots.table l f.slots.table in
+      let n = subst (λ y. OfSort y (count_of w.slots.table)) (sym e) (k.count w.slots.table f.slots.table) in
+      record { known = f.known; slots = record { terms = put_fine bases w.slots.terms i (count_of w.slots.table) f.slots.terms n; table = t; trail = (t, tt) } }
 
   ended_fine : (old : Slots) (w : World) → Written old → Fine w → Fine (ended_world old w)
   ended_fine old w h f =
@@ -432,5 +435,5 @@ module _ (bases : List Base) (Number Memory Table Formula : Tree → Type 0) (k 
   walk_fine (s.remember a) h olds o n c w f =
       let e = marked_fine c w f in walk_fine a h ((marked c w).slots ∷ olds) (e.slots, o) n (use_one c mark_base) (marked c w) e
   walk_fine s.grown h olds o n c w f = stays_fine [] _ _ (λ g i. absurd i) (grown_fine c w f)
-  walk_fine (s.made l) h olds o n c w f = stays_fine [] _ _ (λ g i. absurd i) (made_fine c l w f)
+  walk_fine (s.made i l) h olds o n c w f = stays_fine [] _ _ (λ g i. absurd i) (made_fine c i l w h f)
   walk_fine (s.ended l) h olds o n c w f = stays_fine [] c _ (λ g i. absurd i) (ended_fine (at_or w.slots olds l) w (old_fine w.slots olds l f.slots o) f)

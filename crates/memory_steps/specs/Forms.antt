@@ -2,10 +2,10 @@
 -- that were remembered, the last ones first. That they say the same is a premise of the laws, so no law looks into a formula.
 use Rattle.std.specs.Prelude.{◌≡◌, ◌↔◌, ℕ, ℤ, pos, Bool, true, List, [], ◌∷◌, map}
 use Rattle.wp_base.specs.Blocks.{Table}
-use Rattle.qed_terms.specs.Memory.{load}
 use Rattle.qed_terms.specs.Tree.{Tree}
 use Rattle.qed_terms.specs.Meaning as sense
 use Rattle.qed_terms.specs.Meaning.{Value, Whole, Truth, Cells, Blocks, Values, meaning, table, truth}
+use Rattle.same_memories.specs.Canonical.{canonical}
 use Rattle.walk_steps.specs.Forms.{Place, SameBesidesBound}
 use Rattle.memory_steps.specs.State.{Datum, number, cells, State, state, HasSort}
 
@@ -77,7 +77,7 @@ AllTold sts (f ∷ fs) d = ((b o : ℤ) → f.told sts d b o ≡ true) × AllTol
 abbrev pub datum_of : Value → Datum
 datum_of (Whole z) = number z
 datum_of (Truth b) = number (pos 0)
-datum_of (Cells m) = cells (load m)
+datum_of (Cells m) = cells (canonical m)
 datum_of (Blocks t) = number (pos 0)
 
 -- in a world, which says what logic functions are

@@ -8,9 +8,10 @@ use Rattle.walk_steps.specs.State.{In}
 use Rattle.walk_steps.specs.Walk.{Goal, formula_of}
 use Rattle.walk_steps.specs.Laws.{from}
 use Rattle.memory_steps.specs.State.{Datum, number, State, Base, FitsOne}
-use Rattle.memory_steps.specs.Forms.{Slots, slots_of, Claim, written_claims, AllSo, AreClaims, state_of}
+use Rattle.memory_steps.specs.Forms.{Mark, Slots, slots_of, Claim, written_claims, AllSo, AreClaims, state_of}
 use Rattle.memory_steps.specs.Step.{Step, places, count, IsGood}
 use Rattle.memory_steps.specs.Run.{fails, Seg}
+use Rattle.memory_steps.specs.Bracketed.{IsBracketed}
 use Rattle.memory_steps.specs.World.{AreBases, World, world, name_for, table_var}
 use Rattle.memory_steps.specs.Walk.{walk}
 
@@ -53,8 +54,12 @@ start_terms (b ∷ bases) (fixed z ∷ os) = num z ∷ start_terms bases os
 abbrev pub table_name : List ℕ
 table_name = codes "T"
 
+-- the start is the first point
+abbrev pub start_mark : Mark
+start_mark = record { number = zero; table = table_var table_name }
+
 abbrev pub start_slots : List Base → List Origin → Slots
-start_slots bases os = slots_of (start_terms bases os) (table_var table_name) []
+start_slots bases os = slots_of (start_terms bases os) (table_var table_name) (start_mark ∷ [])
 
 -- no slot from these on has this own name
 abbrev pub Away : List ℕ → List Base → List Origin → Type 0
@@ -80,8 +85,12 @@ pub record AreFit (s : Setting) (bases : List Base) (e : Start) (a : Step) : Typ
   pub origins : OriginsFit bases e.origins
   pub facts : AreClaims (world_of s) e.facts
   pub step : IsGood (world_of s) bases a
-  -- all worlds that meet can be joined
-  pub meets : (walk bases [] zero a none_used (start_world bases e)).fits ≡ true
+  -- so all worlds that meet can be joined
+  pub bracketed : IsBracketed a
+
+-- All worlds of a bracketed step that meet can be joined.
+abbrev pub BracketedStepsMeet : Type 0
+BracketedStepsMeet = (bases : List Base) (e : Start) (a : Step) → IsBracketed a → (walk bases [] zero a none_used (start_world bases e)).fits ≡ true
 
 -- ---- the goals
 

@@ -7,6 +7,8 @@ pub mod Join
 pub mod Renew
 pub mod Walk
 pub mod Laws
+pub mod Bracketed
+pub mod Words
 pub mod Readings
 pub mod Examples
 pub mod Texts

@@ -2,12 +2,12 @@
 use Rattle.std.specs.Prelude.{◌≡◌, ◌⊎◌, ℕ, ◌+◌, ℤ, int_le, true, List, ◌∷◌}
 use Rattle.wp_base.specs.declared.kinds.Layout.{Layout}
 use Rattle.wp_base.specs.Blocks as tables
-use Rattle.wp_base.specs.Blocks.{alloc, grow}
+use Rattle.wp_base.specs.Blocks.{grow}
 use Rattle.walk_steps.specs.State.{at_or, AllTrue, FirstFalse}
 use Rattle.memory_steps.specs.State.{Datum, State, with_slots, with_table}
 use Rattle.memory_steps.specs.Forms.{Form, Term, Check, forms, told_forms}
 use Rattle.memory_steps.specs.Step.{Change, Step, seq, ask, know, set, change, remember, scope, halt, grown, made, ended, count}
-use Rattle.memory_steps.specs.Run.{End, goes_on, fails, IsOver, on_state, Changes, put_back, set_in, ended_to, Seg}
+use Rattle.memory_steps.specs.Run.{End, goes_on, fails, IsOver, on_state, Changes, put_back, set_in, made_in, ended_to, Seg}
 
 abbrev pub Both : Type 0 → Type 0 → Type 0
 Both X Y = (X → Y) × (Y → X)
@@ -54,8 +54,8 @@ GrowthsRead = (olds : List State) (n : ℕ) (b : Step) (st : State) (o : End)
     → Both (Seg olds n (seq grown b) st o) ((z : ℤ) × (int_le (tables.count st.table) z ≡ true) × Seg olds n b (with_table st (grow st.table z)) o)
 
 abbrev pub MakingsRead : Type 0
-MakingsRead = (olds : List State) (n : ℕ) (l : Layout) (b : Step) (st : State) (o : End)
-    → Both (Seg olds n (seq (made l) b) st o) (Seg olds n b (with_table st (alloc st.table l)) o)
+MakingsRead = (olds : List State) (n i : ℕ) (l : Layout) (b : Step) (st : State) (o : End)
+    → Both (Seg olds n (seq (made i l) b) st o) (Seg olds n b (made_in st i l) o)
 
 abbrev pub EndingsRead : Type 0
 EndingsRead = (olds : List State) (n l : ℕ) (b : Step) (st : State) (o : End)

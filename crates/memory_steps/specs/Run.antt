@@ -4,7 +4,7 @@ use Rattle.wp_base.specs.declared.kinds.Layout.{Layout}
 use Rattle.wp_base.specs.Blocks as tables
 use Rattle.wp_base.specs.Blocks.{Table, alloc, grow}
 use Rattle.walk_steps.specs.State.{at_or, put, restore, AllTrue, FirstFalse}
-use Rattle.memory_steps.specs.State.{Datum, number, cells, State, with_slots, with_table, IsLike, nothing}
+use Rattle.memory_steps.specs.State.{Datum, number, cells, State, state, with_slots, with_table, IsLike, nothing}
 use Rattle.memory_steps.specs.Forms.{Form, Term, Check, forms, told_forms, AllTold}
 use Rattle.memory_steps.specs.Step.{Change, keeps, fresh, raised, Step, skip, seq, ask, know, set, change, choose, block, exit, scope, remember, grown, made, ended, count}
 
@@ -37,9 +37,9 @@ on_state f (fails i) = fails i
 -- a flag may be raised so
 abbrev pub Raised : (old new : Datum) → Type 0
 Raised (number x) (number y) = (int_le (pos 0) y ≡ true) × (int_le y (pos 1) ≡ true) × (int_le x y ≡ true)
-Raised (number x) (cells g) = ⊥
-Raised (cells f) (number y) = ⊥
-Raised (cells f) (cells g) = ⊥
+Raised (number x) (cells n) = ⊥
+Raised (cells m) (number y) = ⊥
+Raised (cells m) (cells n) = ⊥
 
 -- a slot may change so; the states are the present one and those remembered
 abbrev pub Changed : List State → Change → (old new : Datum) → Type 0
@@ -61,6 +61,10 @@ put_back is old new = with_slots new (restore nothing is old.slots new.slots)
 -- a slot set
 abbrev pub set_in : State → ℕ → Datum → State
 set_in st i d = with_slots st (put st.slots i d)
+
+-- one more block, which lives; its number is in the slot
+abbrev pub made_in : State → ℕ → Layout → State
+made_in st i l = state (put st.slots i (number (tables.count st.table))) (alloc st.table l)
 
 -- the blocks of a table, and all newer ones ended
 abbrev pub ended_to : (old : State) → State → State
@@ -89,5 +93,5 @@ pub data Seg : (olds : List State) (n : ℕ) → Step → State → End → Type
       → Seg olds n (scope is a) st (on_state (put_back is st) o)
   remembers : {olds : List State} {n : ℕ} {a : Step} {st : State} {o : End} → Seg (st ∷ olds) n a st o → Seg olds n (remember a) st o
   grows : {olds : List State} {n : ℕ} {st : State} (z : ℤ) → int_le (tables.count st.table) z ≡ true → Seg olds n grown st (goes_on (with_table st (grow st.table z)))
-  makes : {olds : List State} {n : ℕ} {l : Layout} {st : State} → Seg olds n (made l) st (goes_on (with_table st (alloc st.table l)))
+  makes : {olds : List State} {n i : ℕ} {l : Layout} {st : State} → Seg olds n (made i l) st (goes_on (made_in st i l))
   ends : {olds : List State} {n l : ℕ} {st : State} → Seg olds n (ended l) st (goes_on (ended_to (at_or st olds l) st))

@@ -1,11 +1,12 @@
--- A state: a list of data, a slot each, of the same length all through a function, and the table of blocks. A memory is what it holds at each address.
-use Rattle.std.specs.Prelude.{◌≡◌, ℕ, ℤ, pos, Bool, true, false, List, [], ◌∷◌}
+-- A state: a list of data, a slot each, of the same length all through a function, and the table of blocks. A memory is the one list of its entries in order.
+use Rattle.std.specs.Prelude.{ℕ, ℤ, pos, Bool, true, false, List, [], ◌∷◌}
 use Rattle.wp_base.specs.Blocks.{Table}
-use Rattle.qed_terms.specs.Memory.{Memory, load}
+use Rattle.qed_terms.specs.Memory.{Memory}
+use Rattle.same_memories.specs.Canonical.{IsCanonical}
 
 pub data Datum : Type 0 where
   number : (z : ℤ) → Datum
-  cells : (at : (block offset : ℤ) → ℤ) → Datum
+  cells : (m : Memory) → Datum
 
 pub record State : Type 0 where
   pub slots : List Datum
@@ -33,20 +34,16 @@ base x b = record { name = x; is_memory = b }
 -- a memory, or a number
 abbrev pub HasSort : (is_memory : Bool) → Datum → Type 0
 HasSort false (number z) = Unit {0}
-HasSort false (cells f) = ⊥
+HasSort false (cells m) = ⊥
 HasSort true (number z) = ⊥
-HasSort true (cells f) = Unit {0}
+HasSort true (cells m) = Unit {0}
 
--- some memory holds this
-abbrev pub IsHeld : ((block offset : ℤ) → ℤ) → Type 0
-IsHeld f = (m : Memory) × (load m ≡ f)
-
--- a number, or what some memory holds
+-- a number, or a memory in order
 abbrev pub FitsOne : (is_memory : Bool) → Datum → Type 0
 FitsOne false (number z) = Unit {0}
-FitsOne false (cells f) = ⊥
+FitsOne false (cells m) = ⊥
 FitsOne true (number z) = ⊥
-FitsOne true (cells f) = IsHeld f
+FitsOne true (cells m) = IsCanonical m
 
 -- data have the sorts of the bases
 abbrev pub HaveSorts : List Base → List Datum → Type 0
@@ -61,12 +58,12 @@ Fits [] (d ∷ ds) = ⊥
 Fits (b ∷ bases) [] = ⊥
 Fits (b ∷ bases) (d ∷ ds) = FitsOne b.is_memory d × Fits bases ds
 
--- of the sort of another one, a number or what some memory holds
+-- of the sort of another one, a number or a memory in order
 abbrev pub IsLike : (old new : Datum) → Type 0
 IsLike (number x) (number y) = Unit {0}
-IsLike (number x) (cells g) = ⊥
-IsLike (cells f) (number y) = ⊥
-IsLike (cells f) (cells g) = IsHeld g
+IsLike (number x) (cells n) = ⊥
+IsLike (cells m) (number y) = ⊥
+IsLike (cells m) (cells n) = IsCanonical n
 
 abbrev pub nothing : Datum
 nothing = number (pos 0)

@@ -37,8 +37,8 @@ pub data Step : Type 0 where
   remember : (a : Step) → Step
   -- any number of blocks were made, and have ended
   grown : Step
-  -- one more block, which lives
-  made : (l : Layout) → Step
+  -- one more block, which lives, and its number in this slot
+  made : (i : ℕ) (l : Layout) → Step
   -- the blocks that were made since the table of this level was remembered have ended
   ended : (level : ℕ) → Step
 
@@ -111,5 +111,5 @@ module _ (m : sense.World) (bases : List Base) where
   IsGood (scope is a) = IsGood a
   IsGood (remember a) = IsGood a
   IsGood grown = Unit {0}
-  IsGood (made l) = Unit {0}
+  IsGood (made i l) = sort_at bases i ≡ false
   IsGood (ended l) = Unit {0}

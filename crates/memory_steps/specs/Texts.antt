@@ -82,7 +82,7 @@ module _ (bases : List Base) (Number Memory Table Formula : Tree → Type 0) whe
   Writes (scope is a) = Writes a
   Writes (remember a) = Writes a
   Writes grown = Unit {0}
-  Writes (made l) = Unit {0}
+  Writes (made i l) = sort_at bases i ≡ false
   Writes (ended l) = Unit {0}
 
 -- ---- well formed goals

@@ -98,5 +98,5 @@ module _ (bases : List Base) where
   walk olds n (scope is a) c w = on_worlds (restored is w) (walk olds n a c w)
   walk olds n (remember a) c w = let v = marked c w in walk (v.slots ∷ olds) n a (use_one c mark_base) v
   walk olds n grown c w = stays [] (use_one c count_base.name) (grown_world c w)
-  walk olds n (made l) c w = stays [] (use_one c mark_base) (made_world c l w)
+  walk olds n (made i l) c w = stays [] (use_one c mark_base) (made_world c i l w)
   walk olds n (ended l) c w = stays [] c (ended_world (at_or w.slots olds l) w)

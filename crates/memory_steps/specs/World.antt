@@ -125,7 +125,7 @@ abbrev pub mark_base : List ℕ
 mark_base = []
 
 abbrev pub with_mark : Used → Tree → List Mark → List Mark
-with_mark c t ps = ps ++ record { number = c mark_base; table = t } ∷ []
+with_mark c t ps = ps ++ record { number = suc (c mark_base); table = t } ∷ []
 
 -- with a point that was passed
 abbrev pub marked : Used → World → World
@@ -137,9 +137,11 @@ grown_world c w =
     let x = new_name c count_base in
     world (w.known ++ at_most (count_of w.slots.table) x ∷ []) (slots_of w.slots.terms (grow_of w.slots.table x) w.slots.trail)
 
--- one more block; the only point is that behind it
-abbrev pub made_world : Used → Layout → World → World
-made_world c l w = let t = alloc_of w.slots.table l in world w.known (slots_of w.slots.terms t (with_mark c t []))
+-- one more block, and its number, which was the count; the only point is that behind it
+abbrev pub made_world : Used → ℕ → Layout → World → World
+made_world c i l w =
+    let t = alloc_of w.slots.table l in
+    world w.known (slots_of (put w.slots.terms i (count_of w.slots.table)) t (with_mark c t []))
 
 -- the blocks that were made since have ended, and the points are those from before
 abbrev pub ended_world : (old : Slots) → World → World

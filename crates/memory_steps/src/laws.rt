@@ -1,6 +1,8 @@
 // Laws of the definitions, each the contract of a function that does nothing.
 ghost use Rattle.memory_steps.specs.Examples.{ExampleGoals};
+ghost use Rattle.memory_steps.specs.Bracketed.{EpochsCompose};
 ghost use Rattle.memory_steps.specs.Laws.{
+  BracketedStepsMeet,
   FailuresHaveGoals,
   FalsifiedDecode,
   GoalsAreExact,
@@ -21,6 +23,7 @@ ghost use Rattle.memory_steps.specs.Readings.{
   SetsRead,
 };
 ghost use Rattle.memory_steps.specs.Texts.{GoalsAreWellFormed, GoalsHaveGivenNames};
+ghost use Rattle.memory_steps.specs.Words.{BracketsEnd, ExitsEnd, WordsAreBracketed};
 
 /// There is one goal for each check that is walked, in the same order.
 #[tactic(auto, using(crate::proofs::Exact::goals_are_the_checks))]
@@ -50,6 +53,35 @@ pub fn falsified_decode()
 #[tactic(auto, using(crate::proofs::Exact::failures_have_goals))]
 pub fn failures_have_goals()
     ensures { FailuresHaveGoals }
+{}
+
+/// All worlds of a bracketed step that meet can be joined.
+#[tactic(auto, using(crate::proofs::Bracketed::bracketed_steps_meet))]
+pub fn bracketed_steps_meet()
+    ensures { BracketedStepsMeet }
+{}
+
+/// How words are bracketed.
+#[tactic(auto, using(crate::proofs::Bracketed::epochs_compose))]
+pub fn epochs_compose()
+    ensures { EpochsCompose }
+{}
+
+/// Exits end what was made since their block began.
+pub fn exits_end()
+    ensures { ExitsEnd }
+{}
+
+/// What stands in a bracket is in an epoch of its own.
+#[tactic(auto, using(crate::proofs::Words::brackets_end))]
+pub fn brackets_end()
+    ensures { BracketsEnd }
+{}
+
+/// All words are bracketed.
+#[tactic(auto, using(crate::proofs::Words::words_are_bracketed))]
+pub fn words_are_bracketed()
+    ensures { WordsAreBracketed }
 {}
 
 /// The first step ends the run, or the second one goes on.

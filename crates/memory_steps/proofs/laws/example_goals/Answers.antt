@@ -1,6 +1,5 @@
 use Rattle.memory_steps.proofs.laws.example_goals.Goals as goal
 use Rattle.memory_steps.proofs.Worked as worked
 
--- src/laws.rt:122:1
 pub returns : goal.returns
 returns c = worked.example_goals

@@ -1,6 +1,5 @@
 use Rattle.memory_steps.proofs.laws.falsified_decode.Goals as goal
 use Rattle.memory_steps.proofs.Exact as exact
 
--- src/laws.rt:45:1
 pub returns : goal.returns
 returns c = exact.falsified_decode

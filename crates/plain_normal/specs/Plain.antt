@@ -26,7 +26,7 @@ use Rattle.plain_normal.specs.Single.{is_single}
 
 -- any variable may be read; that a value was set is checked
 abbrev pub anywhere : Scope
-anywhere = record { has_blocks = false; is_declared = λ x. true; temporaries = λ n. None }
+anywhere = record { has_blocks = false; has_kind = λ k. false; is_declared = λ x. true; temporaries = λ n. None }
 
 -- one operand, of which this is so
 abbrev pub Only : t.Values → (t.Value → Type 0) → Type 0

@@ -19,7 +19,7 @@ abbrev pub temporary_kind : Shape → ℕ → Option CellKind
 temporary_kind s n = if nat_lt n s.temporaries then Some (cell.Of (s.temp_kind n)) else None
 
 abbrev pub scope_of : Shape → Scope
-scope_of s = record { has_blocks = false; is_declared = λ x. true; temporaries = temporary_kind s }
+scope_of s = record { has_blocks = false; has_kind = λ k. false; is_declared = λ x. true; temporaries = temporary_kind s }
 
 -- a value of its type's kind
 abbrev pub TypedGive : Type 0

@@ -36,7 +36,7 @@ temporary_kind s f n = if nat_lt n s.temporaries && f n then Some (cell.Of (s.te
 
 -- where these temporaries are used
 abbrev pub scope_at : Shape → Temporaries → Scope
-scope_at s f = record { has_blocks = false; is_declared = λ x. true; temporaries = temporary_kind s f }
+scope_at s f = record { has_blocks = false; has_kind = λ k. false; is_declared = λ x. true; temporaries = temporary_kind s f }
 
 abbrev pub is_closed_item : Item → Bool
 is_closed_item i = is_closed [] (formula_of i)

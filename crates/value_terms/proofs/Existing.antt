@@ -219,9 +219,9 @@ worlds_have_readings p xs s tm w fine = record {
           constant_means (terms_world p) (values p tm w) p _ _ (w.memory.cells (global_home p x) (pos 0)) (fine.globals x v found plain);
       homes = λ on x v found declared block. refl;
       table = λ on. refl;
-      numbers = λ on k b o there. loads (λ b o. number_of (w.memory.cells b o)) w.memory.blocks (cell.Of k) b o there;
-      blocks = λ on b o there. loads (λ b o. block_of (w.memory.cells b o)) w.memory.blocks cell.Ptr b o there;
-      offsets = λ on b o there. loads (λ b o. offset_of (w.memory.cells b o)) w.memory.blocks cell.Ptr b o there;
+      numbers = λ on k has b o there. loads (λ b o. number_of (w.memory.cells b o)) w.memory.blocks (cell.Of k) b o there;
+      blocks = λ on has b o there. loads (λ b o. block_of (w.memory.cells b o)) w.memory.blocks cell.Ptr b o there;
+      offsets = λ on has b o there. loads (λ b o. offset_of (w.memory.cells b o)) w.memory.blocks cell.Ptr b o there;
     };
   };
   well_formed = record {

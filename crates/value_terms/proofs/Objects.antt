@@ -61,8 +61,8 @@ module _ {mw : m.World} {env : m.Values} {r : Reading} {p : Facts} {xs : List Va
       (stood.stands.globals x h.0.variable h.0.found ((global_is p.globals path.root x o).plain h.0.variable h.0.found))
   cell_means None type path ts vs met o e h means test all =
       loaded_means stood h.0 (address_term p r path ts) (address p w path vs)
-      (object_means stood ts vs means h.0 path.root path.steps (kind_given type) h.1) (cell_of type)
-      (read_there stood.kinds type path vs met e h.1 test all)
+      (object_means stood ts vs means h.0 path.root path.steps (kind_given type) h.2) (cell_of type) (ap s.has_kind e ∙ h.1)
+      (read_there stood.kinds type path vs met e h.2 test all)
 
   pub read_means : (o : Option ℕ) (type : CoreType) (path : Path) (ts : List Term) (vs : List Value) (met : Check → Bool) → plain_root xs path.root ≡ o
       → ReadIsTyped p xs s o type path → Operands ts vs → ((u : Undefined) (l n : ℕ) → met (at_step u l n) ≡ read_test_by o p xs w type path u n vs)
@@ -106,8 +106,8 @@ module _ {mw : m.World} {env : m.Values} {r : Reading} {p : Facts} {xs : List Va
   behind_access (Some x) type path ts vs met o e h means test all = tt
   behind_access None type path ts vs met o e h means test all =
       facts_say stood h.0 (address_term p r path ts) (address p w path vs)
-      (object_means stood ts vs means h.0 path.root path.steps (kind_given type) h.1) (cell_of type) met
-      (read_there stood.kinds type path vs met e h.1 test all)
+      (object_means stood ts vs means h.0 path.root path.steps (kind_given type) h.2) (cell_of type) met (ap s.has_kind e ∙ h.1)
+      (read_there stood.kinds type path vs met e h.2 test all)
 
   pub read_says : (o : Option ℕ) (type : CoreType) (path : Path) (ts : List Term) (vs : List Value) (met : Check → Bool) → plain_root xs path.root ≡ o
       → ReadIsTyped p xs s o type path → Operands ts vs → ((u : Undefined) (l n : ℕ) → met (at_step u l n) ≡ read_test_by o p xs w type path u n vs)

@@ -242,30 +242,30 @@ module _ {mw : m.World} {env : m.Values} {r : Reading} {p : Facts} {xs : List Va
     load_is : (memory : Tree) → V (load_term p r memory a) ≡ load (m.memory (m.meaning mw env memory)) (block_of v) (offset_of v)
     load_is memory = λ i. load (m.memory (m.meaning mw env memory)) (sym (block_means mw env a v h) i) (sym (offset_means mw env a v h) i)
 
-    number_is_loaded : (k : Kind) → There (cell.Of k) → number_of here ≡ V (load_term p r (r.numbers k) a)
-    number_is_loaded k there = sym (load_is (r.numbers k) ∙ stood.stands.numbers on k (block_of v) (offset_of v) there)
+    number_is_loaded : (k : Kind) → s.has_kind (cell.Of k) ≡ true → There (cell.Of k) → number_of here ≡ V (load_term p r (r.numbers k) a)
+    number_is_loaded k has there = sym (load_is (r.numbers k) ∙ stood.stands.numbers on k has (block_of v) (offset_of v) there)
 
-    block_is_loaded : There cell.Ptr → block_of here ≡ V (load_term p r r.blocks a)
-    block_is_loaded there = sym (load_is r.blocks ∙ stood.stands.blocks on (block_of v) (offset_of v) there)
+    block_is_loaded : s.has_kind cell.Ptr ≡ true → There cell.Ptr → block_of here ≡ V (load_term p r r.blocks a)
+    block_is_loaded has there = sym (load_is r.blocks ∙ stood.stands.blocks on has (block_of v) (offset_of v) there)
 
-    offset_is_loaded : There cell.Ptr → offset_of here ≡ V (load_term p r r.offsets a)
-    offset_is_loaded there = sym (load_is r.offsets ∙ stood.stands.offsets on (block_of v) (offset_of v) there)
+    offset_is_loaded : s.has_kind cell.Ptr ≡ true → There cell.Ptr → offset_of here ≡ V (load_term p r r.offsets a)
+    offset_is_loaded has there = sym (load_is r.offsets ∙ stood.stands.offsets on has (block_of v) (offset_of v) there)
 
-    pub loaded_means : (k : CellKind) → There k → M (loaded p r k a) (content w.memory k v)
-    loaded_means (cell.Of k) there =
+    pub loaded_means : (k : CellKind) → s.has_kind k ≡ true → There k → M (loaded p r k a) (content w.memory k v)
+    loaded_means (cell.Of k) has there =
         of_kind_same p (count w.memory.blocks) (cell.Of k) here (held (cell.Of k) there)
-        ∙ (number_is p (count w.memory.blocks) k here (held (cell.Of k) there)).same ∙ ap number (number_is_loaded k there)
-    loaded_means cell.Ptr there =
+        ∙ (number_is p (count w.memory.blocks) k here (held (cell.Of k) there)).same ∙ ap number (number_is_loaded k has there)
+    loaded_means cell.Ptr has there =
         of_kind_same p (count w.memory.blocks) cell.Ptr here (held cell.Ptr there)
-        ∙ (pointer_is p (count w.memory.blocks) here (held cell.Ptr there)).same ∙ pointers (block_is_loaded there) (offset_is_loaded there)
+        ∙ (pointer_is p (count w.memory.blocks) here (held cell.Ptr there)).same ∙ pointers (block_is_loaded has there) (offset_is_loaded has there)
 
-    pub facts_say : (k : CellKind) (met : Check → Bool) → There k → Says So met (cell_facts p r k (loaded p r k a))
-    facts_say (cell.Of k) met there =
-        range_says met k (load_term p r (r.numbers k) a) (subst (λ z. holds p.model k z ≡ true) (number_is_loaded k there)
+    pub facts_say : (k : CellKind) (met : Check → Bool) → s.has_kind k ≡ true → There k → Says So met (cell_facts p r k (loaded p r k a))
+    facts_say (cell.Of k) met has there =
+        range_says met k (load_term p r (r.numbers k) a) (subst (λ z. holds p.model k z ≡ true) (number_is_loaded k has there)
         (number_is p (count w.memory.blocks) k here (held (cell.Of k) there)).held)
-    facts_say cell.Ptr met there =
+    facts_say cell.Ptr met has there =
         let made = (pointer_is p (count w.memory.blocks) here (held cell.Ptr there)).made in
         let parts = and_parts (int_le (pos 0) (block_of here)) _ made in (
-          ap (int_le (pos 0)) (sym (block_is_loaded there)) ∙ parts.0,
-          ((λ i. int_lt (sym (block_is_loaded there) i) (count (stood.stands.table on i))) ∙ parts.1, tt),
+          ap (int_le (pos 0)) (sym (block_is_loaded has there)) ∙ parts.0,
+          ((λ i. int_lt (sym (block_is_loaded has there) i) (count (stood.stands.table on i))) ∙ parts.1, tt),
         )

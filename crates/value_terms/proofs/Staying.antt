@@ -91,7 +91,7 @@ module _ {p : Facts} {xs : List Variable} {s : Scope} {tm : Temps} {w : World} (
   cell_stays (Some x) type path vs met o e h test all =
       subst (λ v. IsOf p w (cell_of type) v) (sym (global_content x type path vs o e h)) (global_held x type path o e h)
   cell_stays None type path vs met o e h test all =
-      let held = fine.cells (cell_of type) _ _ (read_there type path vs met e h.1 test all) in
+      let held = fine.cells (cell_of type) _ _ (read_there type path vs met e h.2 test all) in
       subst (λ v. IsOf p w (cell_of type) v) (sym (of_kind_same p (count w.memory.blocks) (cell_of type) _ held)) held
 
   read_stays : (r : Option ℕ) (type : CoreType) (path : Path) (vs : List Value) (met : Check → Bool) → plain_root xs path.root ≡ r

@@ -42,10 +42,11 @@ operand_kind t.stop i = cell.Of kind.Int
 operand_kind (t.more e es) zero = kind_given (t.type_of e)
 operand_kind (t.more e es) (suc i) = operand_kind es i
 
--- What is known where an expression stands: which variables of the function are declared there, and the kind of each temporary that was set; and whether
--- blocks are spoken of at all, which a program without pointers and arrays has no need of.
+-- What is known where an expression stands: which variables of the function are declared there, and the kind of each temporary that was set; whether blocks
+-- are spoken of at all, which a program without pointers and arrays has no need of, and of which kinds the cells are that are read.
 pub record Scope : Type 0 where
   pub has_blocks : Bool
+  pub has_kind : CellKind → Bool
   pub is_declared : (variable : ℕ) → Bool
   pub temporaries : (number : ℕ) → Option CellKind
 
@@ -103,7 +104,7 @@ module _ (p : Facts) (xs : List Variable) (s : Scope) where
 
   abbrev pub CellIsTyped : Option ℕ → Root → List Step → CellKind → Type 0
   CellIsTyped (Some x) o ss k = GlobalHas p x k × (ss ≡ [])
-  CellIsTyped None o ss k = (s.has_blocks ≡ true) × ObjectIsTyped o ss k
+  CellIsTyped None o ss k = (s.has_blocks ≡ true) × (s.has_kind k ≡ true) × ObjectIsTyped o ss k
 
   abbrev pub ReadIsTyped : Option ℕ → CoreType → Path → Type 0
   ReadIsTyped (Some x) type path = LocalHas xs s x (kind_given type)

@@ -66,10 +66,10 @@ pub record Stands (mw : m.World) (env : m.Values) (r : Reading) (p : Facts) (xs 
   pub homes : s.has_blocks ≡ true → (x : ℕ) (v : Variable) → slice_get xs x ≡ Some v → s.is_declared x ≡ true → v.is_plain ≡ false
       → m.value mw env (r.homes x) ≡ block_of_local p x (w.locals x)
   pub table : s.has_blocks ≡ true → m.table (m.meaning mw env r.table) ≡ w.memory.blocks
-  -- where the cells of a kind are, its memory has what they hold
-  pub numbers : s.has_blocks ≡ true → (k : Kind) (b o : ℤ) → is_cell (cell.Of k) w.memory.blocks b o ≡ true
+  -- where the cells of such a kind are, its memory has what they hold
+  pub numbers : s.has_blocks ≡ true → (k : Kind) → s.has_kind (cell.Of k) ≡ true → (b o : ℤ) → is_cell (cell.Of k) w.memory.blocks b o ≡ true
       → load (m.memory (m.meaning mw env (r.numbers k))) b o ≡ number_of (w.memory.cells b o)
-  pub blocks : s.has_blocks ≡ true → (b o : ℤ) → is_cell cell.Ptr w.memory.blocks b o ≡ true
+  pub blocks : s.has_blocks ≡ true → s.has_kind cell.Ptr ≡ true → (b o : ℤ) → is_cell cell.Ptr w.memory.blocks b o ≡ true
       → load (m.memory (m.meaning mw env r.blocks)) b o ≡ block_of (w.memory.cells b o)
-  pub offsets : s.has_blocks ≡ true → (b o : ℤ) → is_cell cell.Ptr w.memory.blocks b o ≡ true
+  pub offsets : s.has_blocks ≡ true → s.has_kind cell.Ptr ≡ true → (b o : ℤ) → is_cell cell.Ptr w.memory.blocks b o ≡ true
       → load (m.memory (m.meaning mw env r.offsets)) b o ≡ offset_of (w.memory.cells b o)

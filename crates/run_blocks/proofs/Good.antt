@@ -34,7 +34,7 @@ use Rattle.run_blocks.proofs.Standing.{still, block_still, grown_still}
 
 -- ---- values and contents, where there are more blocks
 
-content_more : (p : Facts) (n n' : ℤ) → int_le n n' ≡ true → (k : CellKind) (v : Value) → is_content p n k v ≡ true → is_content p n' k v ≡ true
+pub content_more : (p : Facts) (n n' : ℤ) → int_le n n' ≡ true → (k : CellKind) (v : Value) → is_content p n k v ≡ true → is_content p n' k v ≡ true
 content_more p n n' more (cell.Of k) (number z) h = h
 content_more p n n' more (cell.Of k) (pointer b o) h = absurd (false≢true h)
 content_more p n n' more (cell.Of k) (addresses s) h = absurd (false≢true h)
@@ -58,7 +58,7 @@ value_more p t u more cell.Ptr (region ks s) h = absurd (false≢true h)
 
 -- ---- good states by their contents
 
-abbrev AllContents : Facts → Memory → Type 0
+abbrev pub AllContents : Facts → Memory → Type 0
 AllContents p m = (k : CellKind) (b o : ℤ) → is_cell k m.blocks b o ≡ true → is_content p (count m.blocks) k (m.cells b o) ≡ true
 
 module _ (p : Facts) (m : Memory) where
@@ -68,10 +68,10 @@ module _ (p : Facts) (m : Memory) where
   read : AllRead m held
   read = (states_have_memories m).some
 
-  good_shaped : IsGood p m → IsShaped m
+  pub good_shaped : IsGood p m → IsShaped m
   good_shaped good = (well_formed_states_are_formed p m held).shaped good.well
 
-  good_contents : IsGood p m → AllContents p m
+  pub good_contents : IsGood p m → AllContents p m
   good_contents good k = (formed_is_of_contents p m k (held k) (good_shaped good) (read k)).0 ((well_formed_states_are_formed p m held).formed good.well good.pointers read k)
 
   module _ (shaped : IsShaped m) (contents : AllContents p m) where
@@ -97,7 +97,7 @@ hidden_home n k (y ∷ xs) (suc x) v e is =
     (λ t. let r = hidden_home n (suc k) xs x v e is in (r.0, ap (λ b. if b then home_from n (suc k) xs x else home_from (suc n) k xs x) t ∙ r.1))
     (λ t. let r = hidden_home (suc n) k xs x v e is in (r.0, ap (λ b. if b then home_from n (suc k) xs x else home_from (suc n) k xs x) t ∙ r.1))
 
-abbrev HasBlocks : Facts → Table → Type 0
+abbrev pub HasBlocks : Facts → Table → Type 0
 HasBlocks p t = (x : ℕ) (v : Variable) → slice_get p.globals x ≡ Some v → v.is_plain ≡ false → has_layout t (global_home p x) v.layout ≡ true
 
 layout_below : (t : Table) (b : ℤ) (l : Layout) → has_layout t b l ≡ true → int_lt b (count t) ≡ true
@@ -105,7 +105,7 @@ layout_below t b l h =
     on_test (int_lt b (count t)) (λ below. below) (λ above. absurd (false≢true (sym (ap (λ x. is_block x (block_of l)) (no_block t b above)) ∙ h)))
 
 module _ (p : Facts) (m : Memory) (good : IsGood p m) where
-  have_blocks : (u : Table) → StillThere m.blocks u → HasBlocks p u
+  pub have_blocks : (u : Table) → StillThere m.blocks u → HasBlocks p u
   have_blocks u there x v e not_plain =
       let b = global_home p x in
       let was : has_layout m.blocks b v.layout ≡ true = sym (unchosen v.is_plain _ _ not_plain) ∙ good.well.globals x v e in
@@ -134,7 +134,7 @@ module _ (p : Facts) (m : Memory) (good : IsGood p m) where
     elsewhere (negsuc i) o out none =
         same i o ∙ good.well.elsewhere (negsuc i) o out (λ k. no_cell_of k m.blocks (negsuc i) o (no_hidden_cell m.blocks i o))
 
-    goes_good : IsGood p n
+    pub goes_good : IsGood p n
     goes_good = record {
       well = record { globals = placed; cells = λ k b o is. (values p n shaped contents k b o is).0; elsewhere = elsewhere; short = short };
       pointers = leads p n shaped contents (λ i o. ap leads_well (same i o) ∙ good.pointers (negsuc i) o);

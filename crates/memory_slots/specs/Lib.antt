@@ -1,0 +1,4 @@
+pub mod Places
+pub mod Leaves
+pub mod Laws
+pub mod Examples

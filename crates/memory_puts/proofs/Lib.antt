@@ -1,0 +1,11 @@
+pub mod Homes
+pub mod Standing
+pub mod Storing
+pub mod Setting
+pub mod Valued
+pub mod Listing
+pub mod Asking
+pub mod Ends
+pub mod Singles
+pub mod Branches
+pub mod Opening

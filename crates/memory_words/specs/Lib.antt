@@ -1,0 +1,10 @@
+pub mod Points
+pub mod Regions
+pub mod Renewal
+pub mod Sets
+pub mod Words
+pub mod Typed
+pub mod Placed
+pub mod Others
+pub mod Bases
+pub mod Examples

@@ -1,0 +1,16 @@
+pub mod Closed
+pub mod Levels
+pub mod Reading
+pub mod Standing
+pub mod Running
+pub mod Telling
+pub mod Integers
+pub mod Pointers
+pub mod Storing
+pub mod Writing
+pub mod Ways
+pub mod Homes
+pub mod Receiving
+pub mod Statements
+pub mod Sets
+pub mod Ends

@@ -1,0 +1,11 @@
+pub mod Values
+pub mod Homes
+pub mod Changing
+pub mod Standing
+pub mod Memories
+pub mod Forth
+pub mod Back
+pub mod Runs
+pub mod Framed
+pub mod Staying
+pub mod Sorts

@@ -1,0 +1,4 @@
+pub mod Havoc
+pub mod Stays
+pub mod Laws
+pub mod Sorts

@@ -1,0 +1,3 @@
+pub mod Solid
+pub mod Laws
+pub mod Examples

@@ -1,0 +1,7 @@
+pub mod Begun
+pub mod Pushed
+pub mod Meeting
+pub mod Kept
+pub mod Alike
+pub mod Walking
+pub mod Along

@@ -1,0 +1,4 @@
+pub mod Walks
+pub mod Alike
+pub mod View
+pub mod Ways

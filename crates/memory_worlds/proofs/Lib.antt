@@ -1,0 +1,6 @@
+pub mod Pushing
+pub mod GivenNames
+pub mod Joined
+pub mod JoinedTables
+pub mod Renewed
+pub mod Ending

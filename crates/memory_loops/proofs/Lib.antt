@@ -1,0 +1,15 @@
+pub mod Coming
+pub mod Checking
+pub mod Sites
+pub mod Regions
+pub mod Clauses
+pub mod Formulas
+pub mod Including
+pub mod Inside
+pub mod Passing
+pub mod Taken
+pub mod Good
+pub mod Turning
+pub mod Staying
+pub mod Heads
+pub mod Loops

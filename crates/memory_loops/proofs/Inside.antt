@@ -275,7 +275,8 @@ module _ (m : sense.World) (p : Facts) (s : Shape) (cells : FileCells) (texts : 
           ∙ told_append m sts first rest
           ∙ (λ i. plain_of contract.plain h.0 contract.plain.assigns (h.0.regions pt.stands.entry) i && behaviors_told contract.behaviors h.1 i)
           ∙ sym (all_both (λ g. list_all (region_inside p g) vs) (granted_by p at_entry granted.blocks 0 contract.plain.assigns) (clauses_in contract.behaviors))
-          ∙ ap (λ (as_ : List acsl.Tree). all_inside ((if list_all (holds p at_entry) as_ then granted_by p at_entry granted.blocks 0 contract.plain.assigns else []) ++ clauses_in contract.behaviors)) (sym nothing)
+          ∙ ap (λ (as_ : List acsl.Tree). all_inside ((if list_all (holds p at_entry) as_ then granted_by p at_entry granted.blocks 0 contract.plain.assigns else []) ++ clauses_in
+          contract.behaviors)) (sym nothing)
           ∙ sym (ap all_inside granted.granted)
 
     force_told : (f : Force) → GrantedBy m p s cells texts contract here olds pt.stands.entry f → ForceFits m p s cells texts contract pt f

@@ -266,7 +266,8 @@ module _ (m : sense.World) (p : Facts) (s : Shape) (cells : FileCells) (i : InSc
       ∙ sym (ap (is_region_of x) e)
   one_named x plain_x a (fit.has_cells blocks other ends address) =
       (ends.cells.means w sts (stands a)).covered (hidden_block p s cells x) (pos 0)
-      ∙ ap (λ t. t && (int_le (value m env ends.cells.low) (pos 0) && int_lt (pos 0) (value m env ends.cells.high))) (apart (value m env ends.cells.block) (hidden_block p s cells x) (address w sts (stands a)) (negative a x))
+      ∙ ap (λ t. t && (int_le (value m env ends.cells.low) (pos 0) && int_lt (pos 0) (value m env ends.cells.high)))
+      (apart (value m env ends.cells.block) (hidden_block p s cells x) (address w sts (stands a)) (negative a x))
       ∙ sym (on_test (is_region_of x a)
       (λ t. let y = region_of_it x a t in absurd (false≢true (sym (other y.0 y.1) ∙ ap (is_plain_variable p s) (sym (so_blocks p s cells x y.0 y.2)) ∙ plain_x)))
       (λ t. t))

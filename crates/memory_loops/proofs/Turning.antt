@@ -243,14 +243,17 @@ module _ (m : sense.World) (p : Facts) (s : Shape) (cells : FileCells) (texts : 
         stays = λ i. stay_trees p s cells texts contract (record pt { force = f i }) (record l { assigns = e i }) ss;
         set = around_taken;
         leave = λ z. leave_by (by_loop sp rs) around_is around_taken z
-            (taken_leave m p s cells sts sp.in_scope (body_reading p s cells texts around_point) (body_plain p s cells texts around_point) around_granted.world around_stands rs around_fits sp.here d z);
+            (taken_leave m p s cells sts sp.in_scope (body_reading p s cells texts around_point) (body_plain p s cells texts around_point) around_granted.world around_stands rs
+            around_fits sp.here d z);
         cells_are = λ k has on b o.
             lets_same around_values around_granted.blocks (count (state_of sts sp.here).table) d k b o (around_count k has)
-            ∙ sym (taken_lies m p s cells sts sp.in_scope (body_reading p s cells texts around_point) (body_plain p s cells texts around_point) around_granted.world around_stands rs around_fits sp.here d k b o);
+            ∙ sym (taken_lies m p s cells sts sp.in_scope (body_reading p s cells texts around_point) (body_plain p s cells texts around_point) around_granted.world around_stands rs
+            around_fits sp.here d k b o);
         kept = λ k has off b o is.
             let parts = or_parts (some_has k (set_regions p s cells texts pt (by_loop sp rs))) (own_kind s.variables k) (sym (ap (λ w. renewed_kind p s cells texts pt w k) around_is) ∙ off) in
             lets_same around_values around_granted.blocks (count (state_of sts sp.here).table) d k b o (around_count k has)
-            ∙ taken_stays m p s cells sts sp.in_scope (body_reading p s cells texts around_point) (body_plain p s cells texts around_point) around_granted.world around_stands rs around_fits sp.here d k
+            ∙ taken_stays m p s cells sts sp.in_scope (body_reading p s cells texts around_point) (body_plain p s cells texts around_point) around_granted.world around_stands rs
+            around_fits sp.here d k
             parts.0 b o (not_newer k (state_of sts sp.here).table fr.table c.world.memory.blocks (around_lacks k has parts.1) site.stands.blocks_are (pos b) o is);
         globals_are = λ x v q plain k.
             named_lets around_values around_granted.blocks d rs x v q plain
@@ -337,7 +340,8 @@ module _ (m : sense.World) (p : Facts) (s : Shape) (cells : FileCells) (texts : 
         clause_count k h = function_granted.since (has_blocks m p s cells texts contract here pt olds fr os l ss c st site k h) st
 
         abbrev clause_taken : Sets
-        clause_taken = taken m p s cells sts pt.stands.is_param (entry_at p s cells texts entry_point) (entry_plain p s cells texts entry_point.entry pt.stands.is_param) at_entry entry_stands rs entry_fits pt.stands.entry 0
+        clause_taken = taken m p s cells sts pt.stands.is_param (entry_at p s cells texts entry_point) (entry_plain p s cells texts entry_point.entry pt.stands.is_param) at_entry
+            entry_stands rs entry_fits pt.stands.entry 0
 
         turning_clause : Turning
         turning_clause = record {
@@ -350,7 +354,8 @@ module _ (m : sense.World) (p : Facts) (s : Shape) (cells : FileCells) (texts : 
           stays = function_stays;
           set = clause_taken;
           leave = λ z. leave_by (by_function rs) clause_is clause_taken z
-              (taken_leave m p s cells sts pt.stands.is_param (entry_at p s cells texts entry_point) (entry_plain p s cells texts entry_point.entry pt.stands.is_param) at_entry entry_stands rs entry_fits
+              (taken_leave m p s cells sts pt.stands.is_param (entry_at p s cells texts entry_point) (entry_plain p s cells texts entry_point.entry pt.stands.is_param) at_entry
+              entry_stands rs entry_fits
               pt.stands.entry 0 z);
           cells_are = λ k has on b o.
               lets_same clause_values function_granted.blocks (count (state_of sts pt.stands.entry).table) 0 k b o (clause_count k has)
@@ -359,12 +364,14 @@ module _ (m : sense.World) (p : Facts) (s : Shape) (cells : FileCells) (texts : 
           kept = λ k has off b o is.
               let parts = or_parts (some_has k (set_regions p s cells texts pt (by_function rs))) (own_kind s.variables k) (sym (ap (λ w. renewed_kind p s cells texts pt w k) clause_is) ∙ off) in
               lets_same clause_values function_granted.blocks (count (state_of sts pt.stands.entry).table) 0 k b o (clause_count k has)
-              ∙ taken_stays m p s cells sts pt.stands.is_param (entry_at p s cells texts entry_point) (entry_plain p s cells texts entry_point.entry pt.stands.is_param) at_entry entry_stands rs entry_fits
+              ∙ taken_stays m p s cells sts pt.stands.is_param (entry_at p s cells texts entry_point) (entry_plain p s cells texts entry_point.entry pt.stands.is_param) at_entry
+              entry_stands rs entry_fits
               pt.stands.entry 0 k parts.0 b o
               (not_newer k (state_of sts pt.stands.entry).table fr.table c.world.memory.blocks (site.placed.since_entry k has parts.1 st) site.stands.blocks_are (pos b) o is);
           globals_are = λ x v q plain k.
               named_lets clause_values function_granted.blocks 0 rs x v q plain
-              (taken_names m p s cells sts pt.stands.is_param (entry_at p s cells texts entry_point) (entry_plain p s cells texts entry_point.entry pt.stands.is_param) at_entry entry_stands rs entry_fits
+              (taken_names m p s cells sts pt.stands.is_param (entry_at p s cells texts entry_point) (entry_plain p s cells texts entry_point.entry pt.stands.is_param) at_entry
+              entry_stands rs entry_fits
               pt.stands.entry 0 (variables.Global x) (ap is_plain_in q ∙ plain)) k
               ∙ ap (λ w. variable_changes w l ss (variables.Global x)) (sym clause_is);
           lets = λ x v q plain. none_lets x;

@@ -1,0 +1,277 @@
+-- The segment runs of a call are the runs of its word.
+use Rattle.std.proofs.Common.{◌≡◌, ◌⊎◌, ℕ, ◌+◌, Bool, true, false, if◌then◌else◌, List, ◌∷◌, Option, Some, None, refl, sym, ap, ◌∙◌, subst, inl, inr}
+use Rattle.std.specs.List.{list_all}
+use Rattle.std.proofs.lemmas.Bool.{false≢true}
+use Rattle.std.proofs.lemmas.Option.{same_Some}
+use Rattle.wp_base.specs.Blocks.{count as blocks_of}
+use Rattle.typed_prog.specs.Tree as t
+use Rattle.qed_terms.specs.Meaning as sense
+use Rattle.acsl_trees.specs.Tree as acsl
+use Rattle.acsl_truth.specs.States as labelled
+use Rattle.acsl_truth.specs.States.{Value}
+use Rattle.acsl_encode.specs.Meaning.{Stands}
+use Rattle.c_runs.specs.Program.{Measure, Contract, Function, Facts, Program}
+use Rattle.c_runs.specs.States.{World, Here}
+use Rattle.c_runs.specs.Claims as broken
+use Rattle.c_runs.specs.Claims.{Stop, failed, unless_true, is_required, required, decreased, goes_down, measure_of, in_state, at_entry, parts_of}
+use Rattle.core_runs.specs.Run.{CoreWorld, Ending, stopped, in_world}
+use Rattle.rte_checks.specs.Checks.{Check}
+use Rattle.core_checks.specs.Tree as core
+use Rattle.core_checks.specs.Tree.{Goal, Steps}
+use Rattle.core_checks.specs.Run as exec
+use Rattle.core_checks.specs.Run.{is_met_in}
+use Rattle.segments.specs.Segments.{Asks}
+use Rattle.goal_segments.specs.Sets.{call_inside}
+use Rattle.goal_segments.specs.Segments as segs
+use Rattle.goal_segments.specs.Segments.{BehindCall, no_deeper, clauses_at}
+use Rattle.value_terms.specs.Words.{checks_in, words}
+use Rattle.value_terms.specs.Places.{all_met_among}
+use Rattle.memory_steps.specs.State.{State}
+use Rattle.memory_steps.specs.Step.{Step, places, count}
+use Rattle.memory_steps.specs.Step as step
+use Rattle.memory_slots.specs.Leaves.{leaves_of}
+use Rattle.program_steps.specs.Stops.{broken_place}
+use Rattle.program_steps.specs.Temporaries.{Temporaries, live}
+use Rattle.memory_readings.specs.Shapes.{FileCells, Shape, sizes}
+use Rattle.memory_readings.specs.Readings.{Texts, reading}
+use Rattle.memory_readings.specs.Standing.{Frame, StandsFor}
+use Rattle.memory_readings.specs.Seen.{InSetting}
+use Rattle.memory_words.specs.Points.{Point, uses_of}
+use Rattle.memory_words.specs.Sets.{entry_at}
+use Rattle.memory_words.specs.Words.{Others, items_step, ask_all}
+use Rattle.memory_words.specs.Typed.{ValuesFit}
+use Rattle.memory_words.specs.Placed.{Openings, Placed, Ends, BothWays}
+use Rattle.memory_puts.specs.Values.{AllEvaluate}
+use Rattle.memory_puts.proofs.Valued.{operands_evaluate}
+use Rattle.memory_puts.proofs.Ends.{asks_all, ends_well, after_items}
+use Rattle.memory_calls.specs.Callee.{entered_at}
+use Rattle.memory_calls.specs.Sets.{inclusion_trees}
+use Rattle.memory_calls.specs.Words.{call_requires, lower_by, behind_call, call_of, call_by}
+use Rattle.memory_calls.specs.Fits.{CallFits}
+use Rattle.memory_calls.specs.Laws.{CallsRun}
+use Rattle.memory_calls.proofs.Views.{entry_stands}
+use Rattle.memory_calls.proofs.Claims.{call_requires_told, is_lower, lower_told}
+use Rattle.memory_calls.proofs.Forces.{entry_read, inclusion_told}
+use Rattle.memory_calls.proofs.Tail.{tail_both}
+use Rattle.memory_calls.proofs.Stages.{Stage, stage_both, file_of}
+
+module _ (m : sense.World) (q : Program Steps) (s : Shape) (cells : FileCells) (texts : Texts) (contract : Contract) (others : Others) (setting : InSetting m q.facts s cells)
+    (here : Here) (pt : Point) (olds : List State) (fr : Frame) (os : Openings) (placed : Placed m q.facts s cells texts contract pt here olds fr os) (f : Temporaries)
+    (cs : List Check) (to : Goal) (k l : ℕ) (es : t.Values) (fits : CallFits m q.facts s cells texts contract q.functions pt f cs to k l es) (c : CoreWorld) (st : State)
+    (stands : StandsFor q.facts s cells fr (live (core.call cs to k l es) (uses_of pt.outs) f) c st) where
+  abbrev p : Facts
+  p = q.facts
+
+  abbrev g : Function Steps
+  g = fits.function
+
+  abbrev vs : List Value
+  vs = exec.totals_in q no_deeper s.variables c es
+
+  abbrev entry : labelled.World
+  entry = at_entry p vs c.world.memory
+
+  abbrev so : Check → Bool
+  so = is_met_in p s.variables c.temps c.world es
+
+  -- ---- the tests of a call, in order
+
+  abbrev required_stop : Option Stop
+  required_stop = required p l entry g.contract
+
+  abbrev lower_stop : Option Stop
+  lower_stop = decreased p l here k (measure_of p entry g.contract.decreases)
+
+  abbrev inside : Bool
+  inside = call_inside p here.granted (clauses_at q s.variables g vs c.world)
+
+  abbrev inside_stop : Option Stop
+  inside_stop = unless_true inside broken.assigns l
+
+  abbrev Back : Ending → Type 0
+  Back o = (v : Value) × ((u : World) × (BehindCall p k g vs c.world v u × (exec.result_to q no_deeper s.variables here to v (in_world c u) ≡ o)))
+
+  abbrev Tested : Ending → Type 0
+  Tested = Stage required_stop (Stage lower_stop (Stage inside_stop Back))
+
+  -- ---- segment runs by what they do
+
+  same_function : (h : Function Steps) → q.functions k ≡ Some h → h ≡ g
+  same_function h e = same_Some h g (sym e ∙ fits.found)
+
+  is_inside : inside ≡ true → inside_stop ≡ None
+  is_inside e = ap (λ b. unless_true b broken.assigns l) e
+
+  abbrev Ways : Ending → Type 0
+  Ways o = ((y : Stop) × Asks so cs (Some y) × (stopped y ≡ o)) ⊎ (Asks so cs None × Tested o)
+
+  -- with the function that is called
+  required_of : Function Steps → Option Stop
+  required_of h = required p l entry h.contract
+
+  call_ways : (o : Ending) → segs.Seg q s.variables here (core.call cs to k l es) c o → Ways o
+  call_ways o (segs.single is h) = absurd (false≢true is)
+  call_ways _ (segs.argument_stops {s = y} asks) = inl (y, asks, refl)
+  call_ways _ (segs.not_required {f = h} {s = y} asks e r) =
+      inr (asks, inl (y, (ap (λ (h : Function Steps). required p l entry h.contract) (sym (same_function h e)) ∙ r, refl)))
+  call_ways _ (segs.not_lower {f = h} {s = y} asks e r d) =
+      let same = sym (same_function h e) in
+      inr (asks, inr (ap (λ (h : Function Steps). required p l entry h.contract) same ∙ r, inl (y, (ap (λ (h : Function Steps). decreased p l here k (measure_of p entry h.contract.decreases)) same ∙ d, refl))))
+  call_ways _ (segs.call_outside {f = h} asks e r d out) =
+      let same = sym (same_function h e) in
+      inr (
+        asks,
+        inr (
+          ap (λ (h : Function Steps). required p l entry h.contract) same ∙ r,
+          inr (
+            ap (λ (h : Function Steps). decreased p l here k (measure_of p entry h.contract.decreases)) same ∙ d,
+            inl (failed broken.assigns l, (ap (λ b. unless_true b broken.assigns l) (ap (λ h. call_inside p here.granted (clauses_at q s.variables h vs c.world)) same ∙ out), refl)),
+          ),
+        ),
+      )
+  call_ways o (segs.returns_from {f = h} {v = v} {u = u} asks e r d within behind is) =
+      let same = sym (same_function h e) in
+      inr (
+        asks,
+        inr (
+          ap (λ (h : Function Steps). required p l entry h.contract) same ∙ r,
+          inr (
+            ap (λ (h : Function Steps). decreased p l here k (measure_of p entry h.contract.decreases)) same ∙ d,
+            inr (is_inside (ap (λ h. call_inside p here.granted (clauses_at q s.variables h vs c.world)) same ∙ within), (v, (u, (subst (λ h. BehindCall p k h vs c.world v u) (sym same) behind, is)))),
+          ),
+        ),
+      )
+
+  abbrev Run : Ending → Type 0
+  Run o = segs.Seg q s.variables here (core.call cs to k l es) c o
+
+  no_stop : (b : Bool) → unless_true b broken.assigns l ≡ None → b ≡ true
+  no_stop true h = refl
+  no_stop false h = absurd (some_none h) where
+    some_none : {X : Type 0} {x : X} → Some x ≡ None → ⊥
+    some_none e = cc
+
+  a_stop : (b : Bool) (y : Stop) → unless_true b broken.assigns l ≡ Some y → (b ≡ false) × (failed broken.assigns l ≡ y)
+  a_stop true y h = absurd (none_some h) where
+    none_some : {X : Type 0} {x : X} → None ≡ Some x → ⊥
+    none_some e = cc
+  a_stop false y h = (refl, same_Some (failed broken.assigns l) y h)
+
+  tested_run : Asks so cs None → (o : Ending) → Tested o → Run o
+  tested_run asks o (inl (y, (r, is))) = subst Run is (segs.not_required asks fits.found r)
+  tested_run asks o (inr (r, inl (y, (d, is)))) = subst Run is (segs.not_lower asks fits.found r d)
+  tested_run asks o (inr (r, inr (d, inl (y, (out, is))))) =
+      let x = a_stop inside y out in
+      subst Run (ap stopped x.1 ∙ is) (segs.call_outside asks fits.found r d x.0)
+  tested_run asks o (inr (r, inr (d, inr (within, (v, (u, (behind, is))))))) = segs.returns_from asks fits.found r d (no_stop inside within) behind is
+
+  -- ---- what is asked says so
+
+  abbrev used : Temporaries
+  used = live (core.call cs to k l es) (uses_of pt.outs) f
+
+  in_scope_is : fr.in_scope ≡ pt.stands.in_scope
+  in_scope_is = λ i x. placed.scope x i
+
+  values : ValuesFit p s cells fr.in_scope used es
+  values = subst (λ i. ValuesFit p s cells i used es) (sym in_scope_is) fits.values
+
+  evaluate : AllEvaluate m p s cells c st olds es
+  evaluate = operands_evaluate m p s cells setting fr placed.lives used c st stands olds es values
+
+  measured : lower_stop ≡ (if p.in_cluster pt.self k then goes_down l (measure_of p (in_state p here.entry) contract.decreases) (measure_of p entry g.contract.decreases) else None)
+  measured = λ j. if p.in_cluster (placed.carried.function j) k then goes_down l (placed.carried.measure j) (measure_of p entry g.contract.decreases) else None
+
+  module _ (met : all_met_among p s.variables c.temps c.world es ≡ true) where
+    entered : (a : acsl.Tree) → Stands m (entered_at p s cells texts g es 0 a) (leaves_of (st ∷ olds)) entry
+    entered a = entry_stands m p s cells setting fr placed.lives used c st stands texts g es values.typed met fits.kinds (st ∷ olds) 0 refl (file_of p s cells fr used c st stands) a
+
+    caller_read : (a : acsl.Tree) → Stands m (entry_at p s cells texts pt.stands a) (leaves_of (st ∷ olds)) (in_state p here.entry)
+    caller_read = entry_read m p s cells texts contract here pt olds fr os setting placed g es st entry entered fits.callee (blocks_of c.world.memory.blocks)
+
+    abbrev goes_lower : Bool → Option Measure → Option Measure → Bool
+    goes_lower b old now = is_lower m p s cells texts (st ∷ olds) g es entry entered pt (in_state p here.entry) caller_read b old now
+
+    lower_so : (b : Bool) (old now : Option Measure) → goes_lower b old now ≡ true
+        → (if b then goes_down l (measure_of p (in_state p here.entry) old) (measure_of p entry now) else None) ≡ None
+    lower_so false old now h = refl
+    lower_so true None now h = refl
+    lower_so true (Some a) None h = refl
+    lower_so true (Some a) (Some d) h = ap (λ b. unless_true b broken.decreases l) h
+
+    not_lower_so : (b : Bool) (old now : Option Measure) → goes_lower b old now ≡ false
+        → (if b then goes_down l (measure_of p (in_state p here.entry) old) (measure_of p entry now) else None) ≡ Some (failed broken.decreases l)
+    not_lower_so false old now h = absurd (false≢true (sym h))
+    not_lower_so true None now h = absurd (false≢true (sym h))
+    not_lower_so true (Some a) None h = absurd (false≢true (sym h))
+    not_lower_so true (Some a) (Some d) h = ap (λ b. unless_true b broken.decreases l) h
+
+    -- ---- the word behind the arguments
+
+    abbrev last_word : Step
+    last_word = behind_call m p s cells texts contract q.functions others pt to g es
+
+    abbrev inside_word : Step
+    inside_word = step.seq (ask_all m (sizes p s) (inclusion_trees p s cells texts g es contract pt) (broken_place broken.assigns l)) last_word
+
+    abbrev lower_word : Step
+    lower_word = step.seq (ask_all m (sizes p s) (lower_by p s cells texts g es pt (p.in_cluster pt.self k) contract.decreases g.contract.decreases) (broken_place broken.decreases l)) inside_word
+
+    abbrev required_word : Step
+    required_word = step.seq (ask_all m (sizes p s) (call_requires p s cells texts g es) (broken_place broken.requires l)) lower_word
+
+    inside_both : (n : ℕ) → BothWays (Stage inside_stop Back) (Ends p s cells fr os (uses_of pt.outs) f (places inside_word) n) olds n inside_word st
+    inside_both n = stage_both p s cells fr os (uses_of pt.outs) f m olds st (broken_place broken.assigns l) (inclusion_trees p s cells texts g es contract pt) n (failed broken.assigns l) (refl, refl) last_word Back inside_stop
+        inside (inclusion_told m p s cells texts contract here pt olds fr os setting placed g es st entry entered fits.callee (blocks_of c.world.memory.blocks) fits.force)
+        is_inside (λ e. ap (λ b. unless_true b broken.assigns l) e)
+        (λ t. tail_both m q s cells texts contract others setting here pt olds fr os placed f cs to k l es fits c st stands met _)
+
+    lower_both : (n : ℕ) → BothWays (Stage lower_stop (Stage inside_stop Back)) (Ends p s cells fr os (uses_of pt.outs) f (places lower_word) n) olds n lower_word st
+    lower_both n = stage_both p s cells fr os (uses_of pt.outs) f m olds st (broken_place broken.decreases l)
+        (lower_by p s cells texts g es pt (p.in_cluster pt.self k) contract.decreases g.contract.decreases) n (failed broken.decreases l) (refl, refl) inside_word (Stage inside_stop Back) lower_stop
+        (goes_lower (p.in_cluster pt.self k) contract.decreases g.contract.decreases)
+        (lower_told m p s cells texts (st ∷ olds) g es entry entered pt (in_state p here.entry) caller_read (p.in_cluster pt.self k) contract.decreases g.contract.decreases fits.measure fits.callee.measure)
+        (λ e. measured ∙ lower_so (p.in_cluster pt.self k) contract.decreases g.contract.decreases e)
+        (λ e. measured ∙ not_lower_so (p.in_cluster pt.self k) contract.decreases g.contract.decreases e)
+        (λ t. inside_both _)
+
+    required_both : (n : ℕ) → BothWays Tested (Ends p s cells fr os (uses_of pt.outs) f (places required_word) n) olds n required_word st
+    required_both n = stage_both p s cells fr os (uses_of pt.outs) f m olds st (broken_place broken.requires l) (call_requires p s cells texts g es) n (failed broken.requires l) (refl, refl) lower_word
+        (Stage lower_stop (Stage inside_stop Back)) required_stop (list_all (is_required p entry) (parts_of g.contract))
+        (call_requires_told m p s cells texts (st ∷ olds) g es entry entered fits.callee)
+        (λ e. ap (λ b. unless_true b broken.requires l) e) (λ e. ap (λ b. unless_true b broken.requires l) e)
+        (λ t. lower_both _)
+
+  -- ---- the whole
+
+  same_checks : checks_in (words p s.variables (reading p s cells) es) ≡ cs
+  same_checks = evaluate.checks ∙ sym fits.checks
+
+  met_so : Asks so (checks_in (words p s.variables (reading p s cells) es)) None → all_met_among p s.variables c.temps c.world es ≡ true
+  met_so asks = asks_all (subst (λ cs. Asks so cs None) evaluate.checks asks)
+
+  abbrev word : Step
+  word = call_of m p s cells texts contract q.functions others pt to k l g es
+
+  from_ways : (o : Ending) → Ways o → ((y : Stop) × Asks so (checks_in (words p s.variables (reading p s cells) es)) (Some y) × (stopped y ≡ o)) ⊎ (Asks so (checks_in (words p s.variables (reading p s cells) es)) None × Tested o)
+  from_ways o (inl (y, asks, is)) = inl (y, subst (λ cs. Asks so cs (Some y)) (sym same_checks) asks, is)
+  from_ways o (inr (asks, tested)) = inr (subst (λ cs. Asks so cs None) (sym same_checks) asks, tested)
+
+  pub call_both : (n : ℕ) → BothWays Run (Ends p s cells fr os (uses_of pt.outs) f (places word) n) olds n word st
+  call_both n = after_items (Ends p s cells fr os (uses_of pt.outs) f) (ends_well p s cells fr os (uses_of pt.outs) f) m (sizes p s) olds st so (words p s.variables (reading p s cells) es) values.items evaluate.says n
+      (step.seq (ask_all m (sizes p s) (call_requires p s cells texts g es) (broken_place broken.requires l))
+      (step.seq (ask_all m (sizes p s) (lower_by p s cells texts g es pt (p.in_cluster pt.self k) contract.decreases g.contract.decreases) (broken_place broken.decreases l))
+      (step.seq (ask_all m (sizes p s) (inclusion_trees p s cells texts g es contract pt) (broken_place broken.assigns l))
+      (behind_call m p s cells texts contract q.functions others pt to g es))))
+      Run Tested
+      (λ o h. from_ways o (call_ways o h))
+      (λ y asks. segs.argument_stops (subst (λ cs. Asks so cs (Some y)) same_checks asks))
+      (λ asks o h. tested_run (subst (λ cs. Asks so cs None) same_checks asks) o h)
+      (λ asks. required_both (met_so asks) (n + count (items_step m (sizes p s) (words p s.variables (reading p s cells) es))))
+
+pub calls_run : CallsRun
+calls_run m q s cells texts contract others setting here pt olds fr os placed after cs to k l es fits n c st stands =
+    subst (λ o. BothWays (segs.Seg q s.variables here (core.call cs to k l es) c)
+    (Ends q.facts s cells fr os (uses_of pt.outs) after (places (call_by m q.facts s cells texts contract q.functions others pt to k l o es)) n) olds n
+    (call_by m q.facts s cells texts contract q.functions others pt to k l o es) st) (sym fits.found)
+    (call_both m q s cells texts contract others setting here pt olds fr os placed after cs to k l es fits c st stands n)

@@ -1,0 +1,14 @@
+pub mod Views
+pub mod Tells
+pub mod Claims
+pub mod Inside
+pub mod Forces
+pub mod Stages
+pub mod Receiving
+pub mod Answers
+pub mod Filling
+pub mod Letting
+pub mod Returned
+pub mod Tail
+pub mod Calls
+pub mod Good

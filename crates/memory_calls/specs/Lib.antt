@@ -1,0 +1,5 @@
+pub mod Callee
+pub mod Sets
+pub mod Words
+pub mod Fits
+pub mod Laws

@@ -1,0 +1,11 @@
+pub mod Parameter
+pub mod Arriving
+pub mod Tests
+pub mod Contracts
+pub mod Granting
+pub mod Cells
+pub mod Homes
+pub mod Placing
+pub mod Returning
+pub mod Bodies
+pub mod Wholes

@@ -1,0 +1,11 @@
+pub mod Functions
+pub mod Starting
+pub mod Words
+pub mod Shown
+pub mod Pointers
+pub mod Locals
+pub mod Fields
+pub mod Calling
+pub mod Behaving
+pub mod Ranges
+pub mod Examples

@@ -1,0 +1,4 @@
+pub mod Good
+pub mod Staying
+pub mod Calling
+pub mod Receiving

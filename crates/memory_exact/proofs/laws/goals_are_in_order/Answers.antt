@@ -1,0 +1,5 @@
+use Rattle.memory_exact.proofs.laws.goals_are_in_order.Goals as goal
+use Rattle.memory_exact.proofs.Exact as proof
+
+pub returns : goal.returns
+returns c = proof.goals_are_in_order

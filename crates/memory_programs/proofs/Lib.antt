@@ -1,0 +1,4 @@
+pub mod Others
+pub mod Parts
+pub mod Runs
+pub mod Exact

@@ -1,0 +1,5 @@
+use Rattle.memory_programs.proofs.laws.stops_are_exact.Goals as goal
+use Rattle.memory_programs.proofs.Exact as proof
+
+pub returns : goal.returns
+returns c = proof.stops_are_exact

@@ -1,0 +1,5 @@
+use Rattle.memory_programs.proofs.laws.valid_goals_run_well.Goals as goal
+use Rattle.memory_programs.proofs.Runs as proof
+
+pub returns : goal.returns
+returns c = proof.valid_goals_run_well

@@ -1,0 +1,4 @@
+pub mod Drafts
+pub mod Laws
+pub mod OverSlots
+pub mod View

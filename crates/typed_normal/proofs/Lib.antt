@@ -1,0 +1,13 @@
+pub mod Ordered
+pub mod OrderedPlans
+pub mod OrderedStatements
+pub mod Sorts
+pub mod Making
+pub mod Objects
+pub mod Pure
+pub mod Planned
+pub mod Singles
+pub mod Scopes
+pub mod Giving
+pub mod Statements
+pub mod Whole

@@ -1,0 +1,4 @@
+pub mod Spelled
+pub mod Typed
+pub mod Order
+pub mod Laws

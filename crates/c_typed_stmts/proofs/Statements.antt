@@ -89,23 +89,26 @@ returned_there c line a = by a (is_void c.result) refl
 
 -- ---- locals
 
--- the type of a local
+-- the type of a local, and its layout
 record TypeOf (c : Context) (d : e.VarDecl) (r : Resolved) : Type 0 where
+  layout : Layout
   new : is_free_here c.scope.local d.name ≡ true
   means : variable (around_of c) true d.line d.ty ≡ Ok r
+  held : extent c.scope.file.structs d.line r ≡ Ok layout
 
 typed_local : (c : Context) (d : e.VarDecl) → Holds (TypeOf c d) (local_type c d)
 typed_local c d = by (variable (around_of c) (is_free_here c.scope.local d.name) d.line d.ty) refl
   where
-    kept : (r : Resolved) (o : Answer Layout) → TypeOf c d r → Holds (TypeOf c d) (after o (λ layout. Ok r))
-    kept r (Ok layout) is = is
-    kept r (Err q) is = tt
+    held_by : (r : Resolved) → is_free_here c.scope.local d.name ≡ true → variable (around_of c) true d.line d.ty ≡ Ok r → (o : Answer Layout) → extent c.scope.file.structs d.line r ≡ o
+        → Holds (TypeOf c d) (after o (λ layout. Ok r))
+    held_by r new is (Ok layout) held = record { layout = layout; new = new; means = is; held = held }
+    held_by r new is (Err q) held = tt
 
     by : (o : Answer Resolved) → variable (around_of c) (is_free_here c.scope.local d.name) d.line d.ty ≡ o
         → Holds (TypeOf c d) (after o (λ t. after (extent c.scope.file.structs d.line t) (λ layout. Ok t)))
     by (Ok r) is =
         let new = new_variable (around_of c) (is_free_here c.scope.local d.name) d.line d.ty r is in
-        kept r (extent c.scope.file.structs d.line r) (record { new = new; means = subst (λ b. variable (around_of c) b d.line d.ty ≡ Ok r) new is })
+        held_by r new (subst (λ b. variable (around_of c) b d.line d.ty ≡ Ok r) new is) (extent c.scope.file.structs d.line r) refl
     by (Err q) is = tt
 
 a_local : (c : Context) (d : e.VarDecl) → Holds (λ r. IsLocal c d r.0 r.1) (local c d)
@@ -113,7 +116,7 @@ unfolding local initialised
 a_local c d = after_holds (TypeOf c d) (λ r. IsLocal c d r.0 r.1) (local_type c d) _ (typed_local c d) (λ r is.
     let inner = initialising (with_variable c d r) (Some (count_of c)) in
     after_holds (IfThere (IsAssigned inner r.ty) d.init) (λ q. IsLocal c d q.0 q.1) (initial_value inner r.ty d.init) _ (init_there inner r.ty d.init) (λ init made.
-    record { is = r; new = is.new; means = is.means; number = refl; init = made; line = refl; declares = refl }))
+    record { is = r; layout = is.layout; new = is.new; means = is.means; held = is.held; number = refl; init = made; line = refl; declares = refl }))
 
 all_locals : (c : Context) (ds : List e.VarDecl) → Holds (λ r. AreLocals c ds r.0 r.1) (locals c ds)
 all_locals c [] = j.no_local c

@@ -1,6 +1,7 @@
 -- Which typed statement a statement has, and what is declared behind it (C11 6.8): a rule a form. Each rule stands for itself, with no order of faults.
 use Rattle.std.specs.Prelude.{◌≡◌, ℕ, ℤ, Bool, true, false, List, [], ◌∷◌, ◌++◌, Option, Some, None, Ok}
 use Rattle.wp_base.specs.declared.kinds.Kind.{Kind}
+use Rattle.wp_base.specs.declared.kinds.Layout.{Layout}
 use Rattle.c_syntax.specs.Expr as e
 use Rattle.c_syntax.specs.Contract.{LoopAnnot}
 use Rattle.c_syntax.specs.Pred.{Pred}
@@ -11,6 +12,7 @@ use Rattle.c_operands.specs.Conversions.{kind_of_value}
 use Rattle.c_contexts.specs.Contexts.{case_number}
 use Rattle.c_scopes.specs.declared.symbols.Resolved.{Resolved}
 use Rattle.c_scopes.specs.Declarations.{is_free_here}
+use Rattle.c_scopes.specs.Extents.{extent}
 use Rattle.c_variables.specs.declared.context.Context.{Context}
 use Rattle.c_variables.specs.Contexts.{around_of}
 use Rattle.c_variables.specs.Variables.{variable}
@@ -22,11 +24,14 @@ use Rattle.c_typed_stmts.specs.Full.{IsFull, IsTest, IsAssigned, IsSwitched, IfT
 
 -- ---- declarations
 
--- A local: its name is new in its block, it has the number behind those before it, and its initialiser has its type, where itself isn't named.
+-- A local: its name is new in its block, an object of its type has no more cells than the limit, it has the number behind those before it, and its
+-- initialiser has its type, where itself isn't named.
 pub record IsLocal (c : Context) (d : e.VarDecl) (r : s.Declared) (behind : Context) : Type 0 where
   pub is : Resolved
+  pub layout : Layout
   pub new : is_free_here c.scope.local d.name ≡ true
   pub means : variable (around_of c) true d.line d.ty ≡ Ok is
+  pub held : extent c.scope.file.structs d.line is ≡ Ok layout
   pub number : r.local ≡ count_of c
   pub init : IfThere (IsAssigned (initialising (with_variable c d is) (Some r.local)) is.ty) d.init r.init
   pub line : r.line ≡ d.line

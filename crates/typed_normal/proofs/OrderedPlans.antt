@@ -172,18 +172,18 @@ module _ (xs : List Variable) where
       let y = put_before w z in
       let s = one (store type l path y.values) in
       let L : Temporaries = λ i. uses m.value i || uses x.value i in
-      let D1 : Sets = With (uses m.value) D in
-      let D2 : Sets = With (uses x.value) D1 in
+      let with_value : Sets = With (uses m.value) D in
+      let with_both : Sets = With (uses x.value) with_value in
       let hc : MadeOk xs L c =
       λ E in_e ps u j. (pure_ok m.value (first_operand es)).made x.next_temp E (λ i v. in_e i (either_left (uses m.value i) (uses x.value i) v)) ps u
       (λ i v. new_uses by type l x.value r.value i (j i v) (λ a. in_e i (either_right (uses m.value i) (uses x.value i) a))) in
       let hz : MadesOk xs L z = λ E in_e ps u j. pures_ok m.value (other_operands es) w.next_temp E (λ i v. in_e i (either_left (uses m.value i) (uses x.value i) v)) ps u j in
       let hy = put_ok L w z (save_if_ok xs L (need (other_operands es)) c hc) hz in
-      let gy = join_good xs y.before s os t D2
-      (hy D2 (λ i v. of_either (uses m.value i) (uses x.value i) v (λ a. inl (inr a)) (λ b. inr b)) os (before xs s os t)
+      let gy = join_good xs y.before s os t with_both
+      (hy with_both (λ i v. of_either (uses m.value i) (uses x.value i) v (λ a. inl (inr a)) (λ b. inr b)) os (before xs s os t)
       (λ i u. of_either (some_use y.values i) (t i) u (λ v. inr v) (λ v. inl (wider (k i v))))) (tt, tt) in
-      let gx = join_good xs x.before (join y.before s) os t D1
-      (save_ok xs (uses m.value) o ((pure_ok m.value (old_value path type l (other_operands es))).made m.next_temp) D1 (λ i v. inr v) os (before xs (join y.before s) os t) gy.used) gy.order in
+      let gx = join_good xs x.before (join y.before s) os t with_value
+      (save_ok xs (uses m.value) o ((pure_ok m.value (old_value path type l (other_operands es))).made m.next_temp) with_value (λ i v. inr v) os (before xs (join y.before s) os t) gy.used) gy.order in
       join_good xs m.before (join x.before (join y.before s)) os t D (h n D left os (before xs (join x.before (join y.before s)) os t) gx.used) gx.order
 
   -- ---- calls

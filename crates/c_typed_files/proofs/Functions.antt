@@ -76,7 +76,7 @@ a_result c bodies h = by (result_type c.scope.file (is_open c.scope.file bodies 
         record { may = may; returns = returns; scalar = held (result_type c.scope.file true h.line h.result) result returns (scalar_result c.scope.file h.line h.result) }
     by (Err r) is = tt
 
-a_header : (c : Context) (bodied : Names Bool) (bodies : List u.Body) (taken : List Bool) (h : d.Function) → Holds (IsHeader c bodied bodies taken h) (header c bodied bodies taken h)
+pub a_header : (c : Context) (bodied : Names Bool) (bodies : List u.Body) (taken : List Bool) (h : d.Function) → Holds (IsHeader c bodied bodies taken h) (header c bodied bodies taken h)
 unfolding header
 a_header c bodied bodies taken h =
     after_holds (ResultOf c bodies h) (IsHeader c bodied bodies taken h) (result_type c.scope.file (is_open c.scope.file bodies (is_some h.body) h.name) h.line h.result)

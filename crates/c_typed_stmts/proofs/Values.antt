@@ -7,14 +7,20 @@ use Rattle.c_syntax.specs.Lines.{line_of}
 use Rattle.c_kinds.specs.Conversions.{promote}
 use Rattle.c_answers.specs.Answers.{Answer, after, fault, wrong}
 use Rattle.typed_prog.specs.declared.types.CoreType.{CoreType}
+use Rattle.typed_prog.specs.declared.operators.Path.{Path}
 use Rattle.typed_prog.specs.Tree as t
-use Rattle.c_operands.specs.Operands.{Operand, Rvalue, valued}
+use Rattle.c_operands.specs.Operands.{Operand, object, value, Rvalue, valued}
 use Rattle.c_operands.specs.Conversions.{assignable, converted, kind_of_value}
 use Rattle.c_rules.specs.Operators.{is_scalar}
 use Rattle.typed_prog.specs.Types.{of_kind}
 use Rattle.c_spelled_back.specs.Constants.{IsConstantExpr}
 use Rattle.c_exprs.specs.Typing.{Around, typed}
 use Rattle.c_sequence.specs.Sequence.{Plain, sequenced}
+use Rattle.c_taken.specs.Addressed.{addressed}
+use Rattle.c_addressed.specs.Addressed.{In, Named, TakesOnly, OperandTakesOnly}
+use Rattle.c_addressed.proofs.Values as addressed_in
+use Rattle.c_addressed.proofs.Values.{OperandTakes, valued_takes, assignable_takes, converted_takes}
+use Rattle.c_addressed.proofs.Expressions.{addresses_are_named}
 use Rattle.c_contexts.specs.Contexts.{in_sequence, value_for, condition_of, condition, statement_of, statement, assigned_of, initialiser, returned, switched_by, switched_of, switched}
 use Rattle.c_variables.specs.declared.context.Context.{Context}
 use Rattle.c_variables.specs.Contexts.{around_of, plain_in}
@@ -43,19 +49,30 @@ this P (Err r) x p is = absurd cc
 
 -- ---- values
 
+-- what is so of the addresses in a value of this expression
+abbrev Way : Around → e.Expr → Path → Type 0
+Way c a path = Named c (λ y. In y (addressed a)) path
+
+addresses_are : (c : Around) (a : e.Expr) (x : Operand) → OperandTakesOnly c (addressed a) x → OperandTakes (Way c a) x
+addresses_are c a (object p is_const) h = h
+addresses_are c a (value v is_constant) h = h
+
 -- a value of this expression, with types in order
 abbrev pub Fine : Around → e.Expr → t.Value → Type 0
-Fine c a v = ValueFits c v × ValueSpells c v a
+Fine c a v = ValueFits c v × ValueSpells c v a × TakesOnly c (addressed a) v
 
 abbrev FineRvalue : Around → e.Expr → Rvalue → Type 0
 FineRvalue c a v = Fine c a v.value
 
 fine_operand : (c : Around) (line : ℕ) (a : e.Expr) (x : Operand) → typed c a ≡ Ok x → Holds (FineRvalue c a) (valued line x)
-fine_operand c line a x is = fine_both (valued line x) (valued_fits c line x (typed_expressions_fit c a x is)) (valued_spells c a line x (typed_expressions_are_spelled c a x is))
+fine_operand c line a x is =
+    fine_all (valued line x) (valued_fits c line x (typed_expressions_fit c a x is)) (valued_spells c a line x (typed_expressions_are_spelled c a x is))
+    (valued_takes (Way c a) line x (addresses_are c a x (addresses_are_named c a x is)))
   where
-    fine_both : (o : Answer Rvalue) → Holds (λ v. ValueFits c v.value) o → Holds (λ v. ValueSpells c v.value a × (v.is_constant ≡ true → IsConstantExpr c a)) o → Holds (FineRvalue c a) o
-    fine_both (Ok v) f g = (f, g.0)
-    fine_both (Err r) f g = tt
+    fine_all : (o : Answer Rvalue) → Holds (λ v. ValueFits c v.value) o → Holds (λ v. ValueSpells c v.value a × (v.is_constant ≡ true → IsConstantExpr c a)) o
+        → addressed_in.Holds (λ v. TakesOnly c (addressed a) v.value) o → Holds (FineRvalue c a) o
+    fine_all (Ok v) f g h = (f, g.0, h)
+    fine_all (Err r) f g h = tt
 
 fine_value : (c : Around) (line : ℕ) (a : e.Expr) → Holds (FineRvalue c a) (value_for c line a)
 fine_value c line a = by (typed c a) refl
@@ -71,7 +88,7 @@ unfolding in_sequence
 ordered c a line v fine = by (sequenced (plain_in c) v) refl
   where
     by : (b : Bool) → sequenced (plain_in c) v ≡ b → Holds (λ w. (w ≡ v) × IsFull c a w) (if b then Ok v else Err (fault rule.Unsequenced line))
-    by true is = (refl, record { fits = fine.0; spells = fine.1; in_order = is })
+    by true is = (refl, record { fits = fine.0; spells = fine.1; in_order = is; addresses = fine.2 })
     by false is = tt
 
 -- ---- by what is wanted
@@ -110,15 +127,16 @@ done c a =
 assigned : (c : Context) (a : e.Expr) (line at : ℕ) (type : CoreType) (v : Rvalue) → Fine (around_of c) a v.value → Holds (IsAssigned c type a) (assigned_of c.model (plain_in c) line at type v)
 assigned c a line at type v fine =
     by (assignable c.model at type v.value) (assignable_fits (around_of c) c.model at type v.value fine.0) (assignable_spells (around_of c) a c.model at type v.value fine.1)
+    (assignable_takes (Way (around_of c) a) c.model at type v.value fine.2)
   where
     made : (o : Answer t.Value) (w : t.Value) → t.type_of w ≡ type → Holds (λ u. (u ≡ w) × IsFull c a u) o → Holds (IsAssigned c type a) o
     made (Ok u) w same h = record { full = h.1; same = ap t.type_of h.0 ∙ same }
     made (Err r) w same h = tt
 
     by : (o : Answer t.Value) → Holds (λ w. ValueFits (around_of c) w × (t.type_of w ≡ type)) o → Holds (λ w. ValueSpells (around_of c) w a) o
-        → Holds (IsAssigned c type a) (after o (in_sequence (plain_in c) line))
-    by (Ok w) f g = made (in_sequence (plain_in c) line w) w f.1 (ordered c a line w (f.0, g))
-    by (Err r) f g = tt
+        → addressed_in.Holds (λ w. TakesOnly (around_of c) (addressed a) w) o → Holds (IsAssigned c type a) (after o (in_sequence (plain_in c) line))
+    by (Ok w) f g h = made (in_sequence (plain_in c) line w) w f.1 (ordered c a line w (f.0, g, h))
+    by (Err r) f g h = tt
 
 pub initialised_by : (c : Context) (type : CoreType) (a : e.Expr) → Holds (IsAssigned c type a) (initialiser (around_of c) (plain_in c) type a)
 unfolding initialiser
@@ -146,5 +164,5 @@ switched_over c a =
     by v fine (Some k) is =
         let w = converted c.model (promote k) v.value in
         let fits = converted_fits (around_of c) c.model (promote k) k v.value fine.0 is in
-        made (in_sequence (plain_in c) (line_of a) w) w k fits.1 (ordered c a (line_of a) w (fits.0, converted_spells (around_of c) a c.model (promote k) v.value fine.1))
+        made (in_sequence (plain_in c) (line_of a) w) w k fits.1 (ordered c a (line_of a) w (fits.0, converted_spells (around_of c) a c.model (promote k) v.value fine.1, converted_takes (Way (around_of c) a) c.model (promote k) v.value fine.2))
     by v fine None is = tt

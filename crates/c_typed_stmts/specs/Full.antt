@@ -1,5 +1,5 @@
--- What is so of a full expression that is typed (C11 6.8p4): each node has the type that its parts give it, it spells the expression that was typed,
--- and it has one result in every order that C allows.
+-- What is so of a full expression that is typed (C11 6.8p4): each node has the type that its parts give it, it spells the expression that was typed, it has
+-- one result in every order that C allows, and the variables whose addresses it takes are named behind `&`.
 use Rattle.std.specs.Prelude.{◌≡◌, ℕ, true, Option, Some, None, Ok}
 use Rattle.wp_base.specs.declared.kinds.Kind.{Kind}
 use Rattle.c_syntax.specs.Expr as e
@@ -8,6 +8,8 @@ use Rattle.typed_prog.specs.declared.types.CoreType.{CoreType}
 use Rattle.typed_prog.specs.Types.{of_kind}
 use Rattle.typed_prog.specs.Tree as t
 use Rattle.c_sequence.specs.Sequence.{sequenced}
+use Rattle.c_taken.specs.Addressed.{addressed}
+use Rattle.c_addressed.specs.Addressed.{TakesOnly}
 use Rattle.c_variables.specs.declared.context.Context.{Context}
 use Rattle.c_variables.specs.Contexts.{around_of, plain_in}
 use Rattle.c_well_typed.specs.Operators.{IsScalar}
@@ -18,6 +20,7 @@ pub record IsFull (c : Context) (a : e.Expr) (v : t.Value) : Type 0 where
   pub fits : ValueFits (around_of c) v
   pub spells : ValueSpells (around_of c) v a
   pub in_order : sequenced (plain_in c) v ≡ true
+  pub addresses : TakesOnly (around_of c) (addressed a) v
 
 -- a condition is a scalar (6.8.4.1p1, 6.8.5p2)
 pub record IsTest (c : Context) (a : e.Expr) (v : t.Value) : Type 0 where

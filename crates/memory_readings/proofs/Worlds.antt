@@ -18,7 +18,6 @@ use Rattle.c_runs.specs.States.{global_home}
 use Rattle.c_runs.specs.Scopes.{is_content}
 use Rattle.acsl_encode.specs.Readings.{Common, home}
 use Rattle.acsl_encode.specs.Meaning.{Holds, HasAddress, Means, SlotStands, SeenStands, AtHome, Stands}
-use Rattle.acsl_encode.proofs.Formulas.{formulas_mean}
 use Rattle.walk_steps.specs.State.{at_or}
 use Rattle.memory_steps.specs.State.{State, state}
 use Rattle.memory_slots.specs.Places.{value as value_place, offset, result, result_offset}
@@ -26,7 +25,7 @@ use Rattle.memory_slots.specs.Leaves.{leaves_of}
 use Rattle.memory_readings.specs.Shapes.{FileCells, Shape, sizes, kind_of}
 use Rattle.memory_readings.specs.Readings.{InScope, Texts, Standpoint, terms_of_kind, slot_of_kind, leaf, global_slot, home_if, hidden_if, hidden_block, common_of, seen_in_body, seen_by_contract, seen_at_loop, body_reading, entry_reading, return_reading}
 use Rattle.memory_readings.specs.Seen.{InSetting, SeenInBody, SeenByContract, SeenAtLoop, ResultIs, BodySeen, EntrySeen, ReturnSeen}
-use Rattle.memory_readings.specs.Laws.{AnnotationsRead, AnnotationsMean}
+use Rattle.memory_readings.specs.Laws.{AnnotationsRead}
 use Rattle.memory_slots.proofs.Leaves.{leaves_are_held}
 use Rattle.memory_readings.proofs.Contents.{content_address, hidden_negative}
 use Rattle.memory_readings.proofs.Levels.{levels_are}
@@ -177,33 +176,4 @@ annotations_read m p s cells texts setting sts w a = record {
   body = in_body m p s cells texts setting sts w a;
   entry = at_entry m p s cells texts setting sts w a;
   back = at_return m p s cells texts setting sts w a;
-}
-
--- ---- what closed formulas mean
-
-pub annotations_mean : AnnotationsMean
-annotations_mean m p texts r a unbound fits calls = record {
-  claim = λ f is closed. record {
-    formula = f;
-    is = is;
-    closed = closed;
-    means = λ w sts stands. (formulas_mean m (texts.binders a) (r a) p.definitions (leaves_of sts) w a unbound fits calls stands).formula f is;
-  };
-  measure = λ u is closed. record {
-    term = u;
-    is = is;
-    closed = closed;
-    means = λ w sts stands. (formulas_mean m (texts.binders a) (r a) p.definitions (leaves_of sts) w a unbound fits calls stands).number u is;
-  };
-  cells = λ ks b low high is closed_block closed_low closed_high. record {
-    kinds = ks;
-    block = b;
-    low = low;
-    high = high;
-    is = is;
-    closed_block = closed_block;
-    closed_low = closed_low;
-    closed_high = closed_high;
-    means = λ w sts stands. (formulas_mean m (texts.binders a) (r a) p.definitions (leaves_of sts) w a unbound fits calls stands).region ks b low high is;
-  };
 }

@@ -1,29 +1,22 @@
 -- What is so of readings of slots that stand for a world.
-use Rattle.std.specs.Prelude.{◌≡◌, ℕ, true, List, [], ◌∷◌, Some}
+use Rattle.std.specs.Prelude.{ℕ, List, [], ◌∷◌}
 use Rattle.wp_base.specs.Blocks.{Table}
 use Rattle.acsl_trees.specs.Tree as acsl
 use Rattle.acsl_truth.specs.States as labelled
 use Rattle.acsl_truth.specs.States.{Value}
-use Rattle.acsl_truth.specs.Truth.{calls_of}
 use Rattle.qed_terms.specs.Meaning as sense
 use Rattle.c_runs.specs.Program.{Facts}
 use Rattle.c_runs.specs.States.{Memory, seen, seen_by_contract as contract_state}
 use Rattle.core_runs.specs.Run.{CoreWorld}
 use Rattle.value_terms.specs.Laws.{Stood}
-use Rattle.acsl_encode.specs.Readings as annotation
-use Rattle.acsl_encode.specs.Readings.{Seen, Terms, region}
-use Rattle.acsl_encode.specs.Encode as encode
 use Rattle.acsl_encode.specs.Meaning.{SeenStands, Stands}
-use Rattle.acsl_encode.specs.WellFormed.{ReadingFits}
-use Rattle.acsl_encode.specs.Calls.{CallsStand}
-use Rattle.acsl_encode.specs.Laws.{IsUnbound}
 use Rattle.walk_steps.specs.State.{at_or}
 use Rattle.memory_steps.specs.State.{State, state}
-use Rattle.memory_slots.specs.Leaves.{leaves_of, is_closed}
+use Rattle.memory_slots.specs.Leaves.{leaves_of}
 use Rattle.memory_readings.specs.Shapes.{FileCells, Shape}
 use Rattle.memory_readings.specs.Readings.{InScope, Texts, Standpoint, reading, common_of, seen_in_body, seen_by_contract, body_reading, entry_reading, return_reading}
 use Rattle.memory_readings.specs.Standing.{Temporaries, Frame, AllLive, FileStands, ParamsAre, StandsFor}
-use Rattle.memory_readings.specs.Seen.{InSetting, scope_at, SeenInBody, SeenByContract, ClaimFits, MeasureFits, CellsFit, BodySeen, EntrySeen, ReturnSeen}
+use Rattle.memory_readings.specs.Seen.{InSetting, scope_at, SeenInBody, SeenByContract, BodySeen, EntrySeen, ReturnSeen}
 
 -- ---- expressions
 
@@ -70,18 +63,3 @@ abbrev pub AnnotationsRead : Type 0
 AnnotationsRead =
     (m : sense.World) (p : Facts) (s : Shape) (cells : FileCells) (texts : Texts) → InSetting m p s cells → (sts : List State) (w : labelled.World) (a : acsl.Tree)
     → ReadingsStand m p s cells texts sts w a
-
--- ---- what fits
-
--- Where binders are named, the reading is well formed and logic functions have the values of their definitions, a closed formula means its annotation; so do a
--- measure's term and the terms of a region of cells.
-pub record MeansIt (m : sense.World) (p : Facts) (r : acsl.Tree → annotation.Reading) (a : acsl.Tree) : Type 0 where
-  pub claim : (f : _) → encode.formula_of (r a) a ≡ Some f → is_closed [] f ≡ true → ClaimFits m p r a
-  pub measure : (u : _) → encode.term_of (r a) a ≡ Some u → is_closed [] u ≡ true → MeasureFits m p r a
-  pub cells : (ks : _) (b low high : _) → encode.terms_of (r a) a ≡ region ks b low high → is_closed [] b ≡ true → is_closed [] low ≡ true → is_closed [] high ≡ true
-      → CellsFit m p r a
-
-abbrev pub AnnotationsMean : Type 0
-AnnotationsMean =
-    (m : sense.World) (p : Facts) (texts : Texts) (r : acsl.Tree → annotation.Reading) (a : acsl.Tree) → IsUnbound (texts.binders a) (r a) → ReadingFits (r a)
-    → CallsStand m.apps (calls_of p.definitions) (r a).common (r a).called → MeansIt m p r a

@@ -1,7 +1,6 @@
 // Laws of readings, each the contract of a function that does nothing.
 ghost use Rattle.memory_readings.specs.Examples.{WorkedReadings};
 ghost use Rattle.memory_readings.specs.Laws.{
-  AnnotationsMean,
   AnnotationsRead,
   BodiesSee,
   ContractsSee,
@@ -27,11 +26,6 @@ pub fn contracts_see()
 /// What is seen of a level is what is seen of its state by itself.
 pub fn levels_are_states()
     ensures { LevelsAreStates }
-{}
-
-/// Closed formulas of annotations mean the annotations.
-pub fn annotations_mean()
-    ensures { AnnotationsMean }
 {}
 
 /// Readings of bodies, entries and returns stand for what annotations see there.

@@ -4,6 +4,6 @@
 mod laws;
 
 pub use laws::{
-    annotations_mean, annotations_read, bodies_see, contracts_see, expressions_read,
-    levels_are_states, worked_readings,
+    annotations_read, bodies_see, contracts_see, expressions_read, levels_are_states,
+    worked_readings,
 };

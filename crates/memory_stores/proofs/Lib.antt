@@ -13,4 +13,3 @@ pub mod Homes
 pub mod Receiving
 pub mod Statements
 pub mod Sets
-pub mod Ends

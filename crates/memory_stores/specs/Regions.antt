@@ -10,19 +10,14 @@ use Rattle.qed_terms.specs.Meaning.{value, truth}
 use Rattle.qed_terms.specs.Tree.{Tree}
 use Rattle.acsl_truth.specs.States as labelled
 use Rattle.acsl_truth.specs.States.{Value, span_of, is_negative}
-use Rattle.acsl_truth.specs.Truth.{calls_of}
 use Rattle.acsl_encode.specs.Readings as annotation
 use Rattle.acsl_encode.specs.Meaning.{HasAddress, IsStretch, Stands}
-use Rattle.acsl_encode.specs.WellFormed.{ReadingFits}
-use Rattle.acsl_encode.specs.Calls.{CallsStand}
-use Rattle.acsl_encode.specs.Laws.{IsUnbound}
 use Rattle.c_runs.specs.Program.{Facts}
 use Rattle.c_runs.specs.States.{Granted}
 use Rattle.c_runs.specs.Claims.{value_of, lets_cell}
 use Rattle.goal_segments.specs.Sets.{first_cell, last_end, region_inside}
 use Rattle.memory_steps.specs.State.{State}
 use Rattle.memory_slots.specs.Leaves.{leaves_of}
-use Rattle.memory_readings.specs.Readings.{Texts}
 use Rattle.memory_readings.specs.Seen.{CellsFit}
 use Rattle.memory_words.specs.Regions.{RegionTree, cell_inside, regions_inside}
 
@@ -65,14 +60,6 @@ pub record EndsFit (m : sense.World) (p : Facts) (r : acsl.Tree → annotation.R
 
 abbrev pub region : Content → acsl.Tree → acsl.Tree
 region c t = acsl.node (head.Region c) (acsl.more t acsl.stop)
-
--- So it is of each region of an annotation that has cells, where binders are named, the reading is well formed and logic functions have the values of their
--- definitions.
-abbrev pub RegionsHaveEnds : Type 0
-RegionsHaveEnds =
-    (m : sense.World) (p : Facts) (texts : Texts) (r : acsl.Tree → annotation.Reading) (c : Content) (t : acsl.Tree) → IsUnbound (texts.binders (region c t)) (r (region c t))
-    → ReadingFits (r (region c t)) → CallsStand m.apps (calls_of p.definitions) (r (region c t)).common (r (region c t)).called
-    → CellsFit m p r (region c t) → EndsFit m p r (region c t)
 
 -- ---- sets
 

@@ -10,7 +10,7 @@ ghost use Rattle.memory_stores.specs.Laws.{
   TermsAreClosed,
   WaysAreAsked,
 };
-ghost use Rattle.memory_stores.specs.Regions.{CellsInside, RegionsHaveEnds, RegionsInside};
+ghost use Rattle.memory_stores.specs.Regions.{CellsInside, RegionsInside};
 
 /// Where the slots of a level stand for a world, the reading of that level does.
 pub fn levels_read()
@@ -65,9 +65,4 @@ pub fn cells_inside()
 /// Whether regions lie in a set.
 pub fn regions_inside()
     ensures { RegionsInside }
-{}
-
-/// The terms of a region are its ends.
-pub fn regions_have_ends()
-    ensures { RegionsHaveEnds }
 {}

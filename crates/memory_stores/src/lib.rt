@@ -5,6 +5,5 @@ mod laws;
 
 pub use laws::{
     blocks_receive, cells_are_stored, cells_are_written, cells_inside, cells_receive, levels_read,
-    regions_have_ends, regions_inside, starts_of_blocks_run, stores_to_cells_run, terms_are_closed,
-    ways_are_asked,
+    regions_inside, starts_of_blocks_run, stores_to_cells_run, terms_are_closed, ways_are_asked,
 };

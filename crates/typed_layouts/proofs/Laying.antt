@@ -40,13 +40,13 @@ has_layout ss line t l h =
 -- ---- one more
 
 -- what stands in a list with one item more
-last_of : {X : Type 0} (xs : List X) (y x : X) (i : ℕ) → slice_get (xs ++ y ∷ []) i ≡ Some x → (slice_get xs i ≡ Some x) ⊎ (y ≡ x)
+pub last_of : {X : Type 0} (xs : List X) (y x : X) (i : ℕ) → slice_get (xs ++ y ∷ []) i ≡ Some x → (slice_get xs i ≡ Some x) ⊎ (y ≡ x)
 last_of [] y x zero h = inr cc
 last_of [] y x (suc i) h = absurd cc
 last_of (z ∷ xs) y x zero h = inl h
 last_of (z ∷ xs) y x (suc i) h = last_of xs y x i h
 
-scalars_more : (fs : List Bool) (f : Bool) (os : List Object) (o : Object) → length fs ≡ length os → PlainAreScalars fs os → (f ≡ true → IsScalar o.ty)
+pub scalars_more : (fs : List Bool) (f : Bool) (os : List Object) (o : Object) → length fs ≡ length os → PlainAreScalars fs os → (f ≡ true → IsScalar o.ty)
     → PlainAreScalars (fs ++ f ∷ []) (os ++ o ∷ [])
 scalars_more [] f [] o e before new zero x h plain = let same : o ≡ x = cc in subst (λ (y : Object). IsScalar y.ty) same (new plain)
 scalars_more [] f [] o e before new (suc n) x h plain = absurd cc

@@ -41,7 +41,7 @@ more_by None cells h = absurd cc
 more_by (Some x) cells h = (x, refl, h)
 
 module _ (ss more : List Structure) (in_more : (tag : ℕ) (x : Structure) → slice_get ss tag ≡ Some x → slice_get more tag ≡ Some x) where
-  more_cells : (b : Base) (stars : List Bool) (cells : List CellKind) → element_cells ss b stars ≡ Some cells → element_cells more b stars ≡ Some cells
+  pub more_cells : (b : Base) (stars : List Bool) (cells : List CellKind) → element_cells ss b stars ≡ Some cells → element_cells more b stars ≡ Some cells
   more_cells (base.Struct n) [] cells h =
       let r = more_by (slice_get ss n) cells h in ap struct_cells (in_more n r.0 r.1) ∙ r.2
   more_cells (base.Of k) [] cells h = h

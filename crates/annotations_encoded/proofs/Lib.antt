@@ -1,0 +1,12 @@
+pub mod Terms
+pub mod Kids
+pub mod Inverting
+pub mod Calls
+pub mod Chains
+pub mod Naming
+pub mod Nodes
+pub mod Binders
+pub mod Encoded
+pub mod Annotations
+pub mod Bodies
+pub mod Examples

@@ -1,0 +1,11 @@
+pub mod Pushed
+pub mod Placed
+pub mod Made
+pub mod Filled
+pub mod Alikes
+pub mod Renewing
+pub mod Framing
+pub mod Walked
+pub mod Stayed
+pub mod ClosedStays
+pub mod Answering

@@ -1,0 +1,18 @@
+use Rattle.std.proofs.Common.{rules, ◌≡◌, true, map}
+use Rattle.qed_terms.specs.View.{formula_tree}
+use Rattle.memory_frames.specs.View.{cells_in, facts_in, shape_in}
+use Rattle.memory_walks.specs.View.{view_state}
+use Rattle.memory_walks.specs.Walks.{states}
+use Rattle.memory_havoc.specs.Stays.{frame_trees}
+use Rattle.memory_slots.specs.Leaves.{fill}
+use Rattle.changed_memories.proofs.Stayed.{all_kept}
+use Rattle.changed_memories.proofs.stays.push_kind.Goals as goal
+
+pub returns : goal.returns
+returns c tx w e =
+    let p = facts_in c.args.frame in
+    let s = shape_in c.args.frame in
+    let cells = cells_in c.args.frame in
+    let ss = states (view_state c.args.state.now) in
+    let on : c.args.changes ≡ true = search (rules, c.if-not-changes.false) in
+    all_kept c.args.changes (map formula_tree c.args.made.now) (map formula_tree c.push_lists.new.made) (map (fill ss) (frame_trees p s cells tx w c.args.kind)) on (c.in_ok-push_lists.ensures tx w e)

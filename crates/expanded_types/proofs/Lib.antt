@@ -1,0 +1,4 @@
+pub mod Lists
+pub mod Silence
+pub mod Expanding
+pub mod Keeping

@@ -1,0 +1,15 @@
+pub mod Nodes
+pub mod Holding
+pub mod Scoped
+pub mod Scoping
+pub mod Layouts
+pub mod Short
+pub mod Params
+pub mod Marks
+pub mod Taken
+pub mod Homes
+pub mod Proper
+pub mod Bodies
+pub mod Variables
+pub mod Typed
+pub mod Whole

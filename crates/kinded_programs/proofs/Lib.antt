@@ -1,0 +1,4 @@
+pub mod TypedValues
+pub mod Growing
+pub mod Bodies
+pub mod Whole

@@ -1,0 +1,4 @@
+pub mod Nodes
+pub mod Values
+pub mod Standing
+pub mod Files

@@ -1,0 +1,3 @@
+pub mod Closed
+pub mod Sorted
+pub mod Laws

@@ -1,0 +1,15 @@
+pub mod FilledOperands
+pub mod FilledHeads
+pub mod Filling
+pub mod Holding
+pub mod Valid_cells
+pub mod Numbering
+pub mod Slot_reads
+pub mod Regions_given
+pub mod Calls_given
+pub mod Encoding_trees
+pub mod Closing
+pub mod ClosedHeads
+pub mod OverLeaves
+pub mod OverArguments
+pub mod Wholes

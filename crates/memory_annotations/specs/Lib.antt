@@ -1,0 +1,11 @@
+pub mod Seen
+pub mod View
+pub mod Claims
+pub mod Filled
+pub mod Parts
+pub mod Encoded
+pub mod Read
+pub mod Regions
+pub mod Closed
+pub mod Bodies
+pub mod Laws

@@ -1,0 +1,14 @@
+mod Found
+mod Turns
+mod Parts
+mod Words
+mod Callees
+mod Labelling
+mod Closed
+mod Pushing
+mod Measuring
+mod Including
+mod Flags
+mod Changing
+mod Passing
+mod Calling

@@ -1,0 +1,21 @@
+use Rattle.std.proofs.Common.{rules, ◌≡◌, ◌++◌, false, true, map, sym, ap, ◌∙◌}
+use Rattle.std.proofs.lemmas.List.{map-append}
+use Rattle.qed_terms.specs.View.{formula_tree}
+use Rattle.program_trees.specs.View.{view_behavior, view_contract}
+use Rattle.memory_slots.specs.Leaves.{fill}
+use Rattle.memory_frames.specs.View.{facts_in, shape_in}
+use Rattle.memory_call_walks.specs.Claimed.{joined}
+use Rattle.memory_call_walks.specs.Sets.{inclusion_by}
+use Rattle.memory_call_walks.proofs.sets.all_inclusions.Goals as goal
+
+pub returns : goal.returns
+returns g c ss r q e so seen count =
+    let by = inclusion_by (facts_in c.args.frame) (shape_in c.args.frame) r (view_contract c.args.contract.now) q e in
+    let bs = c.args.frame.contract.now.behaviors in
+    let plain = by true (view_behavior c.args.frame.contract.now.plain) in
+    let slice : c.as_slice-behaviors.result.now ≡ bs = search (rules, c.as_slice-behaviors.ensures) in
+    c.in_ok-push_inclusions.ensures ss r q e so seen count
+    ∙ ap (λ xs. map formula_tree c.push_inclusion.new.made ++ map (fill ss) (joined (by false) (map view_behavior xs))) slice
+    ∙ ap (λ fs. fs ++ map (fill ss) (joined (by false) (map view_behavior bs)))
+    (c.in_ok-push_inclusion.ensures ss r q e so seen count ∙ ap (λ fs. map formula_tree fs ++ map (fill ss) plain) c.new-made.ensures)
+    ∙ sym (map-append (fill ss) plain (joined (by false) (map view_behavior bs)))

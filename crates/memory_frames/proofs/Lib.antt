@@ -1,0 +1,11 @@
+pub mod Telling
+pub mod Together
+pub mod Named_trees
+pub mod Level_given
+pub mod Closedness
+pub mod Label_given
+pub mod Over
+pub mod Part_given
+pub mod Region_made
+pub mod Set_filled
+pub mod Write_given

@@ -1,0 +1,10 @@
+use Rattle.core_trees.specs.View.{view_loop}
+use Rattle.memory_frames.specs.View.{bases_in, cells_in, facts_in, shape_in, view_point}
+use Rattle.memory_loops.specs.Words as words
+use Rattle.memory_loop_walks.proofs.loops.ask_checks.Goals as goal
+
+pub returns : goal.returns
+returns g c first m os outs =
+    c.in_ok-ask_each.ensures first (bases_in c.args.frame)
+    (words.end_checks (facts_in c.args.frame) (shape_in c.args.frame) (cells_in c.args.frame) (g.T.Texts.text c.args.texts.now) m (view_loop c.args.l.now) (view_point c.args.frame os outs c.args.point))
+    (c.in_ok-checks.ensures m os outs)

@@ -1,0 +1,4 @@
+pub mod Forces
+pub mod Parts
+pub mod Turned
+pub mod Passes

@@ -1,0 +1,12 @@
+use Rattle.std.proofs.Common.{ap, ◌∙◌}
+use Rattle.qed_terms.specs.View.{term_tree}
+use Rattle.memory_slots.specs.Places.{slot}
+use Rattle.memory_values.specs.View.{view_place}
+use Rattle.memory_writes.specs.Moves.{sizes_in}
+use Rattle.memory_writes.proofs.Setting.{number_set}
+use Rattle.memory_writes.proofs.sets.set_number.Goals as goal
+
+pub returns : goal.returns
+returns c m t is =
+    let a = view_place c.args.place in
+    number_set m (sizes_in c.args.frame) a t (term_tree c.args.value) (term_tree c.integer-value.result) c.in_ok-slot.slot is c.integer-value.ensures (c.in_ok-slot.ensures ∙ ap (λ z. slot z a) c.sizes_in.ensures) c.in_ok-set.ensures

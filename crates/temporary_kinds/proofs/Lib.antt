@@ -1,0 +1,7 @@
+pub mod Counted
+pub mod Kinds_theirs
+pub mod Live
+pub mod Telling
+pub mod Expressions
+pub mod Statements
+pub mod Settled

@@ -1,0 +1,4 @@
+pub mod Sights
+pub mod Claims
+pub mod Laws
+pub mod Behaviors

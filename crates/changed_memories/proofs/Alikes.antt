@@ -19,19 +19,19 @@ use Rattle.memory_steps.specs.State.{Base}
 use Rattle.memory_steps.specs.Forms.{Slots, slots_of, Fact, written_facts}
 use Rattle.memory_steps.specs.Step.{Change, fresh, sort_at}
 use Rattle.memory_steps.specs.World.{memory_var, name_for, count_of}
-use Rattle.memory_slots.specs.Places.{Place, Sizes, IsIn, numbers, blocks, offsets, slot, places, changes_by}
-use Rattle.memory_slots.specs.Leaves.{leaf_name, memory_leaf, table_leaf, fill, is_closed, or_false, no_table, as_integer, as_memory, as_table, slot_named, terms_in, tables_in, with_one, fact}
-use Rattle.memory_slots.proofs.Leaves.{leaf_unmarked, slot_of_leaf, written_memory_leaf, written_table_leaf}
-use Rattle.memory_slots.proofs.Listing.{slots_of_places}
-use Rattle.memory_readings.specs.Shapes.{FileCells, is_memory}
+use Rattle.memory_words.specs.Places.{Place, Sizes, IsIn, numbers, blocks, offsets, slot, places, changes_by}
+use Rattle.memory_words.specs.Leaves.{leaf_name, memory_leaf, table_leaf, fill, is_closed, or_false, no_table, as_integer, as_memory, as_table, slot_named, terms_in, tables_in, with_one, fact}
+use Rattle.memory_words.proofs.Leaves.{leaf_unmarked, slot_of_leaf, written_memory_leaf, written_table_leaf}
+use Rattle.memory_words.proofs.SlotListing.{slots_of_places}
+use Rattle.memory_words.specs.Shapes.{FileCells, is_memory}
 use Rattle.memory_worlds.specs.Changes.{at_least, up_to}
 use Rattle.memory_walks.specs.Alike.{IsAlike, AreAlike}
 use Rattle.memory_words.specs.Bases.{AreSorted}
 use Rattle.memory_words.specs.Renewal as words
 use Rattle.memory_words.specs.Renewal.{Leave, of_all, of_regions, new_memory, frames, changed_if}
 use Rattle.memory_words.specs.Words.{any_facts}
-use Rattle.memory_havoc.specs.Havoc as havoc
-use Rattle.memory_havoc.specs.Havoc.{new_number, range_facts}
+use Rattle.memory_calls.specs.Havoc as havoc
+use Rattle.memory_calls.specs.Havoc.{new_number, range_facts}
 use Rattle.changed_memories.specs.Leaving.{fill_leave, LeaveClosed}
 use Rattle.changed_memories.specs.Written.{below, value_change, offset_change, declared_value, frame_facts, number_facts, fixed, pointer_facts, fresh_if}
 use Rattle.changed_memories.proofs.Filled.{frames_filled, frames_closed, all_both}

@@ -9,15 +9,15 @@ use Rattle.memory_steps.specs.State.{Base}
 use Rattle.memory_steps.specs.Forms.{Slots}
 use Rattle.memory_steps.specs.Step.{Change}
 use Rattle.memory_steps.specs.World.{count_of}
-use Rattle.memory_slots.specs.Places.{Place, IsIn, value, offset, flag, result, result_offset, answer, answer_offset, temporary, temporary_offset, numbers, blocks, offsets, changes_by}
-use Rattle.memory_slots.specs.Leaves.{fill}
-use Rattle.memory_slots.proofs.Leaves.{written_table_leaf}
-use Rattle.memory_readings.specs.Readings.{Texts}
-use Rattle.memory_readings.specs.Shapes.{FileCells, Shape, sizes, is_memory}
+use Rattle.memory_words.specs.Places.{Place, IsIn, value, offset, flag, result, result_offset, answer, answer_offset, temporary, temporary_offset, numbers, blocks, offsets, changes_by}
+use Rattle.memory_words.specs.Leaves.{fill}
+use Rattle.memory_words.proofs.Leaves.{written_table_leaf}
+use Rattle.memory_words.specs.Readings.{Texts}
+use Rattle.memory_words.specs.Shapes.{FileCells, Shape, sizes, is_memory}
 use Rattle.memory_walks.specs.Alike.{IsAlike, AreAlike}
 use Rattle.memory_words.specs.Bases.{AreSorted}
 use Rattle.memory_words.specs.Sets.{since}
-use Rattle.memory_calls.specs.Words.{answer_change}
+use Rattle.memory_calls.specs.CallWords.{answer_change}
 use Rattle.changed_memories.specs.Written.{value_change, offset_change, answer_by}
 use Rattle.changed_memories.proofs.Alikes.{present, value_alike, offset_alike, placed_alike}
 

@@ -9,16 +9,16 @@ use Rattle.acsl_encode.specs.Readings as annotation
 use Rattle.acsl_encode.specs.Told.{every_cell, those}
 use Rattle.qed_terms.specs.Tree.{Tree, equal, imp_of}
 use Rattle.c_runs.specs.Program.{Variable, Behavior, Facts}
-use Rattle.memory_slots.specs.Places.{Place, value, offset, numbers, blocks, offsets}
-use Rattle.memory_slots.specs.Leaves.{is_closed}
-use Rattle.memory_slots.proofs.Leaves.{leaf_closed}
-use Rattle.memory_readings.specs.Shapes.{FileCells, Shape, sizes, kind_of}
-use Rattle.memory_readings.specs.Readings.{Texts, leaf, memory_leaf}
+use Rattle.memory_words.specs.Places.{Place, value, offset, numbers, blocks, offsets}
+use Rattle.memory_words.specs.Leaves.{is_closed}
+use Rattle.memory_words.proofs.Leaves.{leaf_closed}
+use Rattle.memory_words.specs.Shapes.{FileCells, Shape, sizes, kind_of}
+use Rattle.memory_words.specs.Readings.{Texts, leaf, memory_leaf}
 use Rattle.memory_words.specs.Regions.{regions_in}
 use Rattle.memory_words.specs.Renewal.{Leave, of_regions, frames}
 use Rattle.memory_words.specs.Sets.{lacks}
-use Rattle.memory_havoc.specs.Havoc.{Havoc, changes_plain}
-use Rattle.memory_havoc.specs.Stays.{frame_trees, all_frames, same_places, variable_stays, stays_from, clause_stays, all_stay}
+use Rattle.memory_calls.specs.Havoc.{Havoc, changes_plain}
+use Rattle.memory_calls.specs.Stays.{frame_trees, all_frames, same_places, variable_stays, stays_from, clause_stays, all_stay}
 use Rattle.memory_frames.specs.Laws.{RegionsClosed}
 use Rattle.changed_memories.specs.Leaving.{LeaveClosed}
 use Rattle.changed_memories.proofs.Filled.{both, all_both, frames_closed}

@@ -10,7 +10,7 @@ use Rattle.qed_terms.specs.declared.head.Shape.TheVariants as shape
 use Rattle.qed_terms.specs.declared.head.Sort.TheVariants as sort
 use Rattle.qed_terms.specs.Tree.{Tree, Trees, node, stop, more, num, trees_of}
 use Rattle.memory_steps.specs.Forms.{Slots}
-use Rattle.memory_slots.specs.Leaves.{fill, fill_all, terms_in, tables_in, slot_named, level_named, is_marked, as_integer, as_memory, as_table, is_closed, are_closed}
+use Rattle.memory_words.specs.Leaves.{fill, fill_all, terms_in, tables_in, slot_named, level_named, is_marked, as_integer, as_memory, as_table, is_closed, are_closed}
 use Rattle.memory_words.specs.Regions.{RegionTree, has_kind, of_kind, shapes_of, bounds_of}
 use Rattle.memory_words.specs.Renewal.{Leave, of_all, of_regions, frame_of, frames}
 use Rattle.memory_frames.specs.Laws.{RegionsClosed}

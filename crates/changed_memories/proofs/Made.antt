@@ -7,7 +7,7 @@ use Rattle.typed_prog.specs.declared.operators.Variable.TheVariants as variables
 use Rattle.c_runs.specs.Program.{Variable, Facts}
 use Rattle.qed_terms.specs.Tree.{Tree}
 use Rattle.memory_steps.specs.Step.{Change, keeps}
-use Rattle.memory_slots.specs.Places.{Sizes, value, answer, numbers, offsets, double, behind_temporaries, slot, changes_by}
+use Rattle.memory_words.specs.Places.{Sizes, value, answer, numbers, offsets, double, behind_temporaries, slot, changes_by}
 use Rattle.memory_worlds.specs.Changes.{view_change}
 use Rattle.memory_worlds.specs.declared.renewals.Change as memory
 use Rattle.memory_worlds.proofs.Pushing.{map_push}

@@ -5,8 +5,8 @@ use Rattle.wp_base.specs.declared.kinds.Kind.TheVariants as kind
 use Rattle.typed_prog.specs.declared.operators.Variable.{Variable}
 use Rattle.typed_prog.specs.declared.operators.Variable.TheVariants as variables
 use Rattle.memory_steps.specs.Step.{Change, keeps}
-use Rattle.memory_slots.specs.Places.{Place, value, offset, flag, result, result_offset, answer, answer_offset, temporary, temporary_offset, numbers, offsets, Sizes, double, triple, behind_variables, behind_temporaries, slot, variable_places, temporary_places, memory_places, places, changes_by}
-use Rattle.memory_slots.proofs.Listing.{triple_is}
+use Rattle.memory_words.specs.Places.{Place, value, offset, flag, result, result_offset, answer, answer_offset, temporary, temporary_offset, numbers, offsets, Sizes, double, triple, behind_variables, behind_temporaries, slot, variable_places, temporary_places, memory_places, places, changes_by}
+use Rattle.memory_words.proofs.SlotListing.{triple_is}
 use Rattle.changed_memories.specs.Written.{kept, three_to}
 
 kept_both : (m n : ℕ) → kept m ++ kept n ≡ kept (m + n)

@@ -7,10 +7,10 @@ use Rattle.c_runs.specs.Scopes.{scalar_of}
 use Rattle.core_trees.specs.View.{view_variable, view_variables}
 use Rattle.core_trees.specs.declared.variables.FunctionVariable.{FunctionVariable}
 use Rattle.qed_terms.specs.Tree.{Tree}
-use Rattle.memory_slots.specs.Places.{double}
+use Rattle.memory_words.specs.Places.{double}
 use Rattle.memory_steps.specs.Step.{Change, keeps}
-use Rattle.memory_havoc.specs.Havoc.{changes_plain, kind_in}
-use Rattle.memory_readings.specs.Shapes.{kind_of}
+use Rattle.memory_calls.specs.Havoc.{changes_plain, kind_in}
+use Rattle.memory_words.specs.Shapes.{kind_of}
 use Rattle.memory_worlds.specs.Changes.{view_change}
 use Rattle.memory_worlds.specs.declared.renewals.Change as memory
 use Rattle.memory_worlds.specs.declared.renewals.Change.TheVariants as change

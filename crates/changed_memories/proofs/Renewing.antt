@@ -11,15 +11,15 @@ use Rattle.memory_steps.specs.State.{Base}
 use Rattle.memory_steps.specs.Forms.{Slots}
 use Rattle.memory_steps.specs.Step.{Change, keeps, fresh}
 use Rattle.memory_steps.specs.World.{count_of}
-use Rattle.memory_slots.specs.Places.{Place, Sizes, IsIn, value, offset, flag, result, result_offset, answer, answer_offset, temporary, temporary_offset, numbers, blocks, offsets, slot, changes_by}
-use Rattle.memory_slots.specs.Leaves.{as_memory, terms_in, fact}
-use Rattle.memory_readings.specs.Shapes.{FileCells, Shape, sizes, is_pointer_cell, is_memory}
+use Rattle.memory_words.specs.Places.{Place, Sizes, IsIn, value, offset, flag, result, result_offset, answer, answer_offset, temporary, temporary_offset, numbers, blocks, offsets, slot, changes_by}
+use Rattle.memory_words.specs.Leaves.{as_memory, terms_in, fact}
+use Rattle.memory_words.specs.Shapes.{FileCells, Shape, sizes, is_pointer_cell, is_memory}
 use Rattle.memory_walks.specs.Alike.{IsAlike, AreAlike}
 use Rattle.memory_words.specs.Bases.{AreSorted}
 use Rattle.memory_words.specs.Renewal.{Leave, first_change, second_change}
 use Rattle.memory_words.specs.Words.{any_facts, any_change}
-use Rattle.memory_havoc.specs.Havoc as havoc
-use Rattle.memory_havoc.specs.Havoc.{Havoc, changes_plain, kind_in, change_of}
+use Rattle.memory_calls.specs.Havoc as havoc
+use Rattle.memory_calls.specs.Havoc.{Havoc, changes_plain, kind_in, change_of}
 use Rattle.changed_memories.specs.Flags.{flag_of}
 use Rattle.changed_memories.specs.Leaving.{fill_leave, LeaveClosed}
 use Rattle.changed_memories.specs.Written.{raised_if, value_change, offset_change, declared_value, number_facts, pointer_facts, fresh_if, number_at, first_by, second_by, havoc_by, declared_by}

@@ -16,17 +16,17 @@ use Rattle.core_trees.specs.View.{view_variable, view_variables}
 use Rattle.core_trees.specs.declared.variables.FunctionVariable.{FunctionVariable}
 use Rattle.c_runs.specs.Program.{Variable, Behavior, Facts}
 use Rattle.memory_steps.specs.Forms.{Slots}
-use Rattle.memory_slots.specs.Places.{Place, Sizes, value, offset, numbers, blocks, offsets, slot}
-use Rattle.memory_slots.specs.Leaves.{fill, as_integer, terms_in}
-use Rattle.memory_slots.proofs.Leaves.{written_leaf, written_memory_leaf}
-use Rattle.memory_readings.specs.Shapes.{FileCells, Shape, sizes, kind_of}
-use Rattle.memory_readings.specs.Readings.{Texts, leaf, memory_leaf}
+use Rattle.memory_words.specs.Places.{Place, Sizes, value, offset, numbers, blocks, offsets, slot}
+use Rattle.memory_words.specs.Leaves.{fill, as_integer, terms_in}
+use Rattle.memory_words.proofs.Leaves.{written_leaf, written_memory_leaf}
+use Rattle.memory_words.specs.Shapes.{FileCells, Shape, sizes, kind_of}
+use Rattle.memory_words.specs.Readings.{Texts, leaf, memory_leaf}
 use Rattle.memory_values.specs.OverSlots.{memory_at}
 use Rattle.memory_words.specs.Regions.{regions_in}
 use Rattle.memory_words.specs.Renewal.{Leave, of_regions, frames}
 use Rattle.memory_words.specs.Sets.{lacks}
-use Rattle.memory_havoc.specs.Havoc.{Havoc}
-use Rattle.memory_havoc.specs.Stays.{frame_trees, all_frames, same_places, variable_stays, stays_from, clause_stays, all_stay}
+use Rattle.memory_calls.specs.Havoc.{Havoc}
+use Rattle.memory_calls.specs.Stays.{frame_trees, all_frames, same_places, variable_stays, stays_from, clause_stays, all_stay}
 use Rattle.changed_memories.specs.Leaving.{fill_leave}
 use Rattle.changed_memories.specs.Staying as made
 use Rattle.changed_memories.specs.Staying.{those_if, set_stays}

@@ -7,8 +7,8 @@ use Rattle.memory_steps.specs.State.{Base}
 use Rattle.memory_steps.specs.Forms.{Slots}
 use Rattle.memory_steps.specs.Step as steps
 use Rattle.memory_steps.specs.Step.{Step}
-use Rattle.memory_readings.specs.Shapes.{FileCells, Shape}
-use Rattle.memory_havoc.specs.Havoc.{Havoc, grown_if}
+use Rattle.memory_words.specs.Shapes.{FileCells, Shape}
+use Rattle.memory_calls.specs.Havoc.{Havoc, grown_if}
 use Rattle.memory_walks.specs.Walks.{Held, Walks, states, now_remembers, now_forgets, now_grown}
 use Rattle.memory_walks.proofs.Walking.{grown_walks, seq_goes, remember_walks}
 use Rattle.changed_memories.specs.declared.leave.Leave.{Leave}

@@ -4,11 +4,11 @@ use Rattle.wp_base.specs.declared.kinds.CellKind.{CellKind}
 use Rattle.typed_prog.specs.declared.operators.Variable.TheVariants as variables
 use Rattle.qed_terms.specs.View.{term_tree}
 use Rattle.memory_steps.specs.Forms.{Slots}
-use Rattle.memory_readings.specs.Shapes.{sizes}
+use Rattle.memory_words.specs.Shapes.{sizes}
 use Rattle.memory_words.specs.Bases.{AreSorted}
 use Rattle.memory_words.specs.Renewal as words
 use Rattle.memory_words.specs.Renewal.{of_all, of_regions}
-use Rattle.memory_havoc.specs.Havoc.{Havoc}
+use Rattle.memory_calls.specs.Havoc.{Havoc}
 use Rattle.memory_frames.specs.declared.frames.Frame.{Frame}
 use Rattle.memory_frames.specs.Regions.{region_trees}
 use Rattle.memory_frames.specs.View.{bases_in, cells_in, facts_in, shape_in}

@@ -4,12 +4,12 @@ use Rattle.acsl_trees.specs.Tree as acsl
 use Rattle.acsl_encode.specs.Readings as annotation
 use Rattle.qed_terms.specs.Tree.{Tree}
 use Rattle.c_runs.specs.Program.{Behavior, Facts}
-use Rattle.memory_slots.specs.Leaves.{is_closed}
-use Rattle.memory_readings.specs.Shapes.{FileCells, Shape}
-use Rattle.memory_readings.specs.Readings.{Texts}
+use Rattle.memory_words.specs.Leaves.{is_closed}
+use Rattle.memory_words.specs.Shapes.{FileCells, Shape}
+use Rattle.memory_words.specs.Readings.{Texts}
 use Rattle.memory_words.specs.Sets.{assumed_tree}
-use Rattle.memory_havoc.specs.Havoc.{Havoc}
-use Rattle.memory_havoc.specs.Stays.{all_stay}
+use Rattle.memory_calls.specs.Havoc.{Havoc}
+use Rattle.memory_calls.specs.Stays.{all_stay}
 use Rattle.memory_annotations.specs.Closed.{ReadingClosed}
 use Rattle.memory_frames.specs.Asked.{AreClosed}
 

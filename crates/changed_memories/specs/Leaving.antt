@@ -1,7 +1,7 @@
 -- What a renewal leaves open, with the terms of slots in the places of leaves.
 use Rattle.std.specs.Prelude.{List, map}
 use Rattle.memory_steps.specs.Forms.{Slots}
-use Rattle.memory_slots.specs.Leaves.{fill}
+use Rattle.memory_words.specs.Leaves.{fill}
 use Rattle.memory_words.specs.Renewal.{Leave, of_all, of_regions}
 use Rattle.memory_frames.specs.Asked.{AreClosed}
 use Rattle.memory_frames.specs.Laws.{RegionsClosed}

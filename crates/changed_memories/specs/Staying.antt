@@ -6,12 +6,12 @@ use Rattle.acsl_trees.specs.Tree as acsl
 use Rattle.acsl_encode.specs.Told.{every_cell, those}
 use Rattle.qed_terms.specs.Tree.{Tree}
 use Rattle.c_runs.specs.Program.{Variable, Facts}
-use Rattle.memory_readings.specs.Shapes.{FileCells, Shape, kind_of}
-use Rattle.memory_readings.specs.Readings.{Texts}
+use Rattle.memory_words.specs.Shapes.{FileCells, Shape, kind_of}
+use Rattle.memory_words.specs.Readings.{Texts}
 use Rattle.memory_words.specs.Renewal.{Leave}
 use Rattle.memory_words.specs.Sets.{lacks}
-use Rattle.memory_havoc.specs.Havoc.{Havoc}
-use Rattle.memory_havoc.specs.Stays.{all_frames, same_places, stays_from}
+use Rattle.memory_calls.specs.Havoc.{Havoc}
+use Rattle.memory_calls.specs.Stays.{all_frames, same_places, stays_from}
 use Rattle.changed_memories.specs.Flags.{flag_of}
 
 abbrev pub those_if : Bool → List Tree → List Tree

@@ -10,11 +10,11 @@ use Rattle.qed_terms.specs.declared.head.Shape.{Shape}
 use Rattle.qed_terms.specs.declared.head.Shape.TheVariants as shape
 use Rattle.memory_steps.specs.Forms.{Fact}
 use Rattle.memory_steps.specs.Step.{Change, keeps, fresh, raised}
-use Rattle.memory_slots.specs.Places.{Place, value, offset, flag, answer, answer_offset, numbers, blocks, offsets}
-use Rattle.memory_readings.specs.Shapes.{is_pointer_cell}
+use Rattle.memory_words.specs.Places.{Place, value, offset, flag, answer, answer_offset, numbers, blocks, offsets}
+use Rattle.memory_words.specs.Shapes.{is_pointer_cell}
 use Rattle.memory_words.specs.Renewal.{Leave, of_all, of_regions, frame_of, frames}
 use Rattle.memory_words.specs.Regions.{RegionTree, of_kind}
-use Rattle.memory_havoc.specs.Havoc.{changes_plain, kind_in}
+use Rattle.memory_calls.specs.Havoc.{changes_plain, kind_in}
 use Rattle.memory_worlds.specs.Changes.{written_as, at_least, any, from_on, ranged}
 use Rattle.wp_base.specs.declared.kinds.Kind.{Kind}
 use Rattle.wp_base.specs.declared.kinds.Kind.TheVariants as kind

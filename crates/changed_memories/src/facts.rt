@@ -3,7 +3,7 @@ ghost use Rattle.std.specs.Prelude.{◌≡◌, ◌++◌, ◌∷◌, [], map, IfO
 ghost use Rattle.changed_memories.specs.Changed.{view_leave};
 ghost use Rattle.changed_memories.specs.Written as spec;
 ghost use Rattle.memory_frames.specs.Regions.{region_tree, region_trees};
-ghost use Rattle.memory_slots.specs.Places as places;
+ghost use Rattle.memory_words.specs.Places as places;
 ghost use Rattle.memory_values.specs.OverSlots.{memory_at};
 ghost use Rattle.memory_values.specs.View.{view_place, view_sizes};
 ghost use Rattle.memory_words.specs.Regions as regions_of;

@@ -3,8 +3,8 @@ ghost use Rattle.std.specs.Prelude.{◌≡◌, ◌==◌, ◌++◌, ◌∷◌, []
 ghost use Rattle.changed_memories.specs.Flags.{flag_at, flag_of as spec_flag};
 ghost use Rattle.changed_memories.specs.Written as spec;
 ghost use Rattle.core_trees.specs.View.{view_variable, view_variables};
-ghost use Rattle.memory_havoc.specs.Havoc.{changes_plain};
-ghost use Rattle.memory_readings.specs.Shapes.{kind_of as spec_kind};
+ghost use Rattle.memory_calls.specs.Havoc.{changes_plain};
+ghost use Rattle.memory_words.specs.Shapes.{kind_of as spec_kind};
 ghost use Rattle.memory_steps.specs.Step.{fresh, keeps};
 ghost use Rattle.memory_worlds.specs.Changes.{at_least, view_change, view_fact};
 ghost use Rattle.program_trees.specs.View.{view_facts};

@@ -4,10 +4,10 @@ ghost use Rattle.changed_memories.specs.Changed.{IsSorted, LeaveStands, RenewedA
 ghost use Rattle.changed_memories.specs.Flags.{flag_of};
 ghost use Rattle.changed_memories.specs.Written as written;
 ghost use Rattle.memory_frames.specs.View.{Still, bases_in, facts_in, shape_in};
-ghost use Rattle.memory_readings.specs.Shapes.{sizes};
-ghost use Rattle.memory_slots.specs.Leaves.{as_table, tables_in, terms_in};
-ghost use Rattle.memory_slots.specs.Places as places;
-ghost use Rattle.memory_slots.specs.Places.{changes_by};
+ghost use Rattle.memory_words.specs.Shapes.{sizes};
+ghost use Rattle.memory_words.specs.Leaves.{as_table, tables_in, terms_in};
+ghost use Rattle.memory_words.specs.Places as places;
+ghost use Rattle.memory_words.specs.Places.{changes_by};
 ghost use Rattle.memory_steps.specs.Step as step;
 ghost use Rattle.memory_values.specs.OverSlots.{memory_at};
 ghost use Rattle.memory_values.specs.View.{view_sizes};

@@ -20,7 +20,7 @@ use Rattle.qed_terms.specs.declared.head.Head.TheVariants as th
 use Rattle.qed_terms.specs.declared.head.TermOp.TheVariants as op
 use Rattle.qed_terms.specs.Tree as tree
 use Rattle.qed_terms.specs.Tree.{Tree as Term, num, var}
-use Rattle.memory_slots.specs.Leaves.{is_marked}
+use Rattle.memory_words.specs.Leaves.{is_marked}
 use Rattle.acsl_encode.specs.Readings.{Named, one, two, Global, integer_global, pointer_global, Called, Terms, integer, truth, address, variable, elements, region}
 use Rattle.acsl_encode.specs.Readings.{nothing, Pointer, Slot, whole, any_integer, pointer, home, absent, Seen, Reading, seen_at, seen_in, moved_to}
 use Rattle.acsl_encode.specs.Encode as encode

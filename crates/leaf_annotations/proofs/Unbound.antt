@@ -13,7 +13,7 @@ use Rattle.qed_terms.specs.declared.head.Head.TheVariants as th
 use Rattle.qed_terms.specs.Tree.{Tree as Term, Trees, node, stop, more}
 use Rattle.qed_terms.specs.Meaning as meant
 use Rattle.qed_terms.specs.Meaning.{Values, World as Logic, Whole, Truth, whole, is_so, with_int, term_value, form_truth, head_value, all_from, some_from, meaning, meanings}
-use Rattle.memory_slots.specs.Leaves.{is_marked, is_closed, are_closed}
+use Rattle.memory_words.specs.Leaves.{is_marked, is_closed, are_closed}
 use Rattle.acsl_encode.specs.Readings as reading
 use Rattle.acsl_encode.specs.Readings.{Terms, integer, address, variable, elements, region, nothing, Slot, pointer, home, absent, Seen, Common, Reading, truth}
 use Rattle.acsl_encode.specs.Meaning.{Holds, number_in, memory_in, HasAddress, IsOfKind, IsStretch, Means, SlotStands, NumbersHeld, PointersHeld, SeenStands, Stands}

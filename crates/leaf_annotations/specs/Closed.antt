@@ -3,7 +3,7 @@ use Rattle.std.specs.Prelude.{◌≡◌, ℕ, true, List, []}
 use Rattle.wp_base.specs.declared.kinds.Kind.{Kind}
 use Rattle.typed_prog.specs.declared.operators.Variable.{Variable}
 use Rattle.qed_terms.specs.Tree.{Tree}
-use Rattle.memory_slots.specs.Leaves.{is_marked, is_closed}
+use Rattle.memory_words.specs.Leaves.{is_marked, is_closed}
 use Rattle.acsl_encode.specs.Readings.{Terms, integer, truth, address, variable, elements, region, nothing, Pointer, Slot, whole, any_integer, pointer, home, absent}
 use Rattle.acsl_encode.specs.Readings.{Seen, Reading}
 use Rattle.acsl_encode.specs.Meaning.{Holds}

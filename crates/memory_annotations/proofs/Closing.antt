@@ -21,7 +21,7 @@ use Rattle.qed_terms.specs.declared.head.Sort.TheVariants as sort
 use Rattle.qed_terms.specs.declared.head.TermOp.TheVariants as op
 use Rattle.qed_terms.specs.Tree as tree
 use Rattle.qed_terms.specs.Tree.{Tree as Term, Trees, node, stop, more, trees_of, num, var}
-use Rattle.memory_slots.specs.Leaves.{is_marked, is_closed, are_closed, is_closed_range}
+use Rattle.memory_words.specs.Leaves.{is_marked, is_closed, are_closed, is_closed_range}
 use Rattle.acsl_encode.specs.Readings.{Terms, integer, truth, address, variable, elements, region, nothing, Pointer, at, Slot, whole, any_integer, pointer, home, absent, Seen}
 use Rattle.acsl_encode.specs.Encode as encode
 use Rattle.acsl_encode.specs.Encode.{as_integer, as_formula, as_pointer, with_one, with_two, terms_at, comparison, pointer_comparison, times, further, moved}

@@ -17,7 +17,7 @@ use Rattle.qed_terms.specs.declared.head.Head.TheVariants as th
 use Rattle.qed_terms.specs.declared.head.TermOp.TheVariants as op
 use Rattle.qed_terms.specs.Tree.{Tree as Term, node, num, var, imp_of, and_of, or_of, not_of}
 use Rattle.memory_steps.specs.Forms.{Slots}
-use Rattle.memory_slots.specs.Leaves.{fill, as_integer as or_zero, slot_named, terms_in, is_marked}
+use Rattle.memory_words.specs.Leaves.{fill, as_integer as or_zero, slot_named, terms_in, is_marked}
 use Rattle.acsl_encode.specs.Readings.{Named, one, two, Global, integer_global, pointer_global, Called, Terms, integer, truth, address, variable, elements}
 use Rattle.acsl_encode.specs.Readings.{region, nothing, Pointer, Slot, whole, any_integer, pointer, home, absent, Seen, Reading, seen_at, seen_in}
 use Rattle.acsl_encode.specs.Encode as encode

@@ -12,7 +12,7 @@ use Rattle.qed_terms.specs.declared.head.Head.{Head as TermHead}
 use Rattle.qed_terms.specs.declared.head.Head.TheVariants as th
 use Rattle.qed_terms.specs.Tree.{Tree as Term, var}
 use Rattle.memory_steps.specs.Forms.{Slots}
-use Rattle.memory_slots.specs.Leaves.{fill, is_marked}
+use Rattle.memory_words.specs.Leaves.{fill, is_marked}
 use Rattle.acsl_encode.specs.Readings.{Terms, integer, truth, Reading, moved_to}
 use Rattle.acsl_encode.specs.Encode as encode
 use Rattle.acsl_encode.specs.Encode.{as_integer, as_formula, first, last_of, Kids, Names, with_name, Ends, ends_of, kind_of, over, quantified, body_of}

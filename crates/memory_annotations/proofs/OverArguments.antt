@@ -16,11 +16,11 @@ use Rattle.value_terms.specs.Readings.{Term, term_at}
 use Rattle.acsl_encode.specs.Readings.{whole, pointer}
 use Rattle.walk_steps.specs.State.{at_or}
 use Rattle.memory_steps.specs.Forms.{Slots}
-use Rattle.memory_slots.specs.Places.{answer, answer_offset}
-use Rattle.memory_slots.specs.Leaves.{leaf, terms_in}
-use Rattle.memory_readings.specs.Shapes.{FileCells, Shape, sizes, kind_of}
-use Rattle.memory_readings.specs.Seen.{is_closed_term}
-use Rattle.memory_readings.specs.Readings.{Texts}
+use Rattle.memory_words.specs.Places.{answer, answer_offset}
+use Rattle.memory_words.specs.Leaves.{leaf, terms_in}
+use Rattle.memory_words.specs.Shapes.{FileCells, Shape, sizes, kind_of}
+use Rattle.memory_words.specs.Seen.{is_closed_term}
+use Rattle.memory_words.specs.Readings.{Texts}
 use Rattle.memory_values.specs.OverSlots.{fill_term}
 use Rattle.memory_values.proofs.Filled.{fill_number, fill_block, fill_offset}
 use Rattle.memory_values.proofs.Closing.{closed_number, closed_block, closed_offset, values_are_closed}

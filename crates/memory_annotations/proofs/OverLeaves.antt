@@ -14,12 +14,12 @@ use Rattle.c_runs.specs.Program.{Facts}
 use Rattle.c_runs.specs.States.{global_home}
 use Rattle.walk_steps.specs.State.{at_or}
 use Rattle.memory_steps.specs.Forms.{Slots}
-use Rattle.memory_slots.specs.Places.{Place, value, offset, result, result_offset, numbers, blocks, offsets}
-use Rattle.memory_slots.specs.Leaves.{leaf, memory_leaf, table_leaf, as_table, terms_in, tables_in, is_marked, fill, or_false, closed}
-use Rattle.memory_slots.proofs.Leaves.{written_leaf, written_memory_leaf, written_table_leaf, leaf_closed}
-use Rattle.memory_readings.specs.Shapes.{FileCells, Shape, sizes, kind_of}
-use Rattle.memory_readings.specs.Readings as over
-use Rattle.memory_readings.specs.Readings.{InScope, Texts, Standpoint, slot_of_kind, slot_of_any, terms_of_kind, global_slot, local_slot, seen_in_body, seen_by_contract, seen_at_loop, common_of, body_reading, entry_reading, return_reading}
+use Rattle.memory_words.specs.Places.{Place, value, offset, result, result_offset, numbers, blocks, offsets}
+use Rattle.memory_words.specs.Leaves.{leaf, memory_leaf, table_leaf, as_table, terms_in, tables_in, is_marked, fill, or_false, closed}
+use Rattle.memory_words.proofs.Leaves.{written_leaf, written_memory_leaf, written_table_leaf, leaf_closed}
+use Rattle.memory_words.specs.Shapes.{FileCells, Shape, sizes, kind_of}
+use Rattle.memory_words.specs.Readings as over
+use Rattle.memory_words.specs.Readings.{InScope, Texts, Standpoint, slot_of_kind, slot_of_any, terms_of_kind, global_slot, local_slot, seen_in_body, seen_by_contract, seen_at_loop, common_of, body_reading, entry_reading, return_reading}
 use Rattle.memory_values.specs.OverSlots.{integer_at, memory_at}
 use Rattle.acsl_encode.specs.Readings.{Slot, home, at, Reading}
 use Rattle.acsl_encode.specs.Binders.{Spelled, spelled_at, bound_before, numbered}

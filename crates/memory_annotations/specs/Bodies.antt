@@ -6,10 +6,10 @@ use Rattle.core_checks.specs.Tree.{Steps}
 use Rattle.value_terms.specs.Readings.{Term}
 use Rattle.walk_steps.specs.State.{at_or}
 use Rattle.memory_steps.specs.Forms.{Slots}
-use Rattle.memory_slots.specs.Leaves.{terms_in, tables_in}
-use Rattle.memory_slots.specs.Places.{result, result_offset, answer, answer_offset}
-use Rattle.memory_readings.specs.Shapes.{FileCells, Shape, sizes}
-use Rattle.memory_readings.specs.Readings.{InScope, Standpoint, Texts}
+use Rattle.memory_words.specs.Leaves.{terms_in, tables_in}
+use Rattle.memory_words.specs.Places.{result, result_offset, answer, answer_offset}
+use Rattle.memory_words.specs.Shapes.{FileCells, Shape, sizes}
+use Rattle.memory_words.specs.Readings.{InScope, Standpoint, Texts}
 use Rattle.acsl_trees.specs.Tree as acsl
 use Rattle.acsl_encode.specs.Readings.{Seen, Reading, nothing}
 use Rattle.memory_annotations.specs.Seen.{Locals, in_body, in_contract, in_call, seen_over, common_with, result_in}

@@ -7,9 +7,9 @@ use Rattle.c_runs.specs.Program.{Function, Facts}
 use Rattle.core_checks.specs.Tree.{Steps}
 use Rattle.qed_terms.specs.Tree.{Tree}
 use Rattle.memory_steps.specs.Forms.{Slots}
-use Rattle.memory_slots.specs.Leaves.{fill, closed}
-use Rattle.memory_readings.specs.Shapes.{FileCells, Shape}
-use Rattle.memory_readings.specs.Readings.{InScope, Texts, Standpoint, body_reading, entry_reading, return_reading}
+use Rattle.memory_words.specs.Leaves.{fill, closed}
+use Rattle.memory_words.specs.Shapes.{FileCells, Shape}
+use Rattle.memory_words.specs.Readings.{InScope, Texts, Standpoint, body_reading, entry_reading, return_reading}
 use Rattle.memory_values.specs.OverSlots.{fill_term}
 use Rattle.memory_calls.specs.Callee.{terms_at, entered_at, returned_from}
 use Rattle.acsl_encode.specs.Readings.{Reading}

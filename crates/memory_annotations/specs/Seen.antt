@@ -13,10 +13,10 @@ use Rattle.c_runs.specs.Claims.{struct_cells}
 use Rattle.value_terms.specs.Readings.{Term, number_term, block_term, offset_term, term_at}
 use Rattle.acsl_encode.specs.Readings.{Slot, whole, pointer, home, absent, at, Seen, Terms, Common}
 use Rattle.acsl_encode.specs.Binders.{Spelled, numbered}
-use Rattle.memory_slots.specs.Places.{Place, value, offset, numbers, blocks, offsets, Sizes}
-use Rattle.memory_slots.specs.Leaves.{as_table}
-use Rattle.memory_readings.specs.Shapes.{FileCells, kind_of}
-use Rattle.memory_readings.specs.Readings.{InScope, slot_of_kind, slot_of_any, terms_of_kind}
+use Rattle.memory_words.specs.Places.{Place, value, offset, numbers, blocks, offsets, Sizes}
+use Rattle.memory_words.specs.Leaves.{as_table}
+use Rattle.memory_words.specs.Shapes.{FileCells, kind_of}
+use Rattle.memory_words.specs.Readings.{InScope, slot_of_kind, slot_of_any, terms_of_kind}
 use Rattle.memory_values.specs.OverSlots.{integer_at, memory_at}
 
 -- ---- variables

@@ -9,9 +9,9 @@ use Rattle.program_trees.specs.View.{view_facts}
 use Rattle.acsl_encode.specs.Readings as r
 use Rattle.acsl_encode.specs.Readings.{one, two, integer_global, pointer_global, Slot, whole, any_integer, pointer, home, absent}
 use Rattle.acsl_encode.specs.Readings.{nothing}
-use Rattle.memory_readings.specs.Shapes as shapes
-use Rattle.memory_readings.specs.Readings.{InScope}
-use Rattle.memory_slots.specs.Places.{Sizes}
+use Rattle.memory_words.specs.Shapes as shapes
+use Rattle.memory_words.specs.Readings.{InScope}
+use Rattle.memory_words.specs.Places.{Sizes}
 use Rattle.memory_values.specs.View.{view_sizes, view_place, view_terms}
 use Rattle.memory_annotations.specs.Seen as spec
 use Rattle.memory_annotations.specs.Seen.{in_body, in_contract, in_call, seen_over, result_in, common_with}

@@ -6,7 +6,7 @@ ghost use Rattle.c_runs.specs.States.{home_from};
 ghost use Rattle.core_trees.specs.View.{view_variable, view_variables};
 ghost use Rattle.memory_annotations.specs.Seen as spec;
 ghost use Rattle.memory_annotations.specs.View.{facts_in, sizes_in, view_locals, view_scope, view_seen, view_slot};
-ghost use Rattle.memory_readings.specs.Shapes.{kind_of as spec_kind};
+ghost use Rattle.memory_words.specs.Shapes.{kind_of as spec_kind};
 ghost use Rattle.memory_values.specs.OverSlots.{integer_at};
 ghost use Rattle.memory_values.specs.View.{view_place, view_sizes, view_term, view_terms};
 ghost use Rattle.qed_terms.specs.Tree.{Tree};

@@ -17,12 +17,12 @@ use Rattle.core_checks.specs.Tree.{Steps}
 use Rattle.value_terms.specs.Readings.{Term, term_at}
 use Rattle.acsl_encode.specs.Readings.{Slot, whole, pointer, absent, Seen, Reading, nothing}
 use Rattle.memory_steps.specs.Forms.{Slots}
-use Rattle.memory_slots.specs.Leaves.{fill, is_closed}
-use Rattle.memory_slots.specs.Places.{answer, answer_offset}
-use Rattle.memory_slots.proofs.Leaves.{written_leaf, leaf_closed}
-use Rattle.memory_readings.specs.Shapes.{FileCells, Shape, sizes, kind_of}
-use Rattle.memory_readings.specs.Readings.{Texts, Standpoint, terms_of_kind, common_of, body_reading}
-use Rattle.memory_readings.specs.Seen.{is_closed_term}
+use Rattle.memory_words.specs.Leaves.{fill, is_closed}
+use Rattle.memory_words.specs.Places.{answer, answer_offset}
+use Rattle.memory_words.proofs.Leaves.{written_leaf, leaf_closed}
+use Rattle.memory_words.specs.Shapes.{FileCells, Shape, sizes, kind_of}
+use Rattle.memory_words.specs.Readings.{Texts, Standpoint, terms_of_kind, common_of, body_reading}
+use Rattle.memory_words.specs.Seen.{is_closed_term}
 use Rattle.memory_values.specs.OverSlots.{fill_term, IsLevel}
 use Rattle.memory_values.proofs.Filled.{fill_number, fill_block, fill_offset, values_are_filled}
 use Rattle.memory_values.proofs.Closing.{closed_number, closed_block, closed_offset, values_are_closed}

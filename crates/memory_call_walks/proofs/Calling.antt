@@ -9,8 +9,8 @@ use Rattle.memory_steps.specs.Forms.{Check}
 use Rattle.memory_steps.specs.Step as steps
 use Rattle.memory_steps.specs.Step.{Step}
 use Rattle.memory_steps.specs.World.{World}
-use Rattle.memory_slots.specs.Places.{Sizes}
-use Rattle.memory_slots.specs.Leaves.{form}
+use Rattle.memory_words.specs.Places.{Sizes}
+use Rattle.memory_words.specs.Leaves.{form}
 use Rattle.memory_words.specs.Words.{ask_all}
 use Rattle.memory_worlds.specs.Scopes.{saved_at}
 use Rattle.memory_walks.specs.Walks.{Held, states, Walks, now_remembers, now_forgets}

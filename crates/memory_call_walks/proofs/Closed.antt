@@ -7,15 +7,15 @@ use Rattle.qed_terms.specs.Tree.{Tree, at_most, false_tree}
 use Rattle.c_runs.specs.Program.{Claim, Measure, Contract, Facts}
 use Rattle.acsl_encode.specs.Readings.{Terms, integer, truth, address, variable, elements, region, nothing}
 use Rattle.acsl_encode.specs.Encode.{formula_of, term_of, terms_of}
-use Rattle.memory_slots.specs.Leaves.{is_closed}
-use Rattle.memory_readings.specs.Shapes.{FileCells, Shape}
-use Rattle.memory_readings.specs.Readings.{Texts, Standpoint, body_reading}
+use Rattle.memory_words.specs.Leaves.{is_closed}
+use Rattle.memory_words.specs.Shapes.{FileCells, Shape}
+use Rattle.memory_words.specs.Readings.{Texts, Standpoint, body_reading}
 use Rattle.memory_words.specs.Points.{Force, of_function, of_loop, Point}
 use Rattle.memory_words.specs.Regions.{RegionTree, region_in, regions_in, has_kind, of_kind, region_within, region_inside, kinds_of, all_region_trees, regions_inside}
 use Rattle.memory_words.specs.Regions as regions
 use Rattle.memory_words.specs.Sets.{or_none, claim_tree, assumed_tree, under, since, entry_at}
-use Rattle.memory_loops.specs.Words.{or_zero}
-use Rattle.memory_calls.specs.Sets.{only_under, all_named, refuses, Around}
+use Rattle.memory_calls.specs.LoopWords.{or_zero}
+use Rattle.memory_calls.specs.CallSets.{only_under, all_named, refuses, Around}
 use Rattle.memory_annotations.specs.Closed.{ReadingClosed, TermsClosed}
 use Rattle.memory_annotations.proofs.OverArguments.{annotations_closed}
 use Rattle.memory_frames.specs.Asked.{AreClosed}

@@ -10,8 +10,8 @@ use Rattle.qed_terms.specs.Tree.{num}
 use Rattle.walk_steps.specs.State.{at_or}
 use Rattle.memory_steps.specs.World.{count_of}
 use Rattle.memory_steps.specs.Forms.{Slots}
-use Rattle.memory_slots.specs.Leaves.{fill, as_table, tables_in}
-use Rattle.memory_slots.proofs.Leaves.{written_table_leaf}
+use Rattle.memory_words.specs.Leaves.{fill, as_table, tables_in}
+use Rattle.memory_words.proofs.Leaves.{written_table_leaf}
 use Rattle.memory_words.specs.Sets.{since}
 use Rattle.changed_memories.specs.Flags.{flag_of, flag_at}
 use Rattle.memory_call_walks.specs.Changes.{flags_to}

@@ -8,10 +8,10 @@ use Rattle.qed_terms.specs.Tree.{Tree, false_tree}
 use Rattle.qed_terms.specs.View.{formula_tree}
 use Rattle.c_runs.specs.Program.{Facts}
 use Rattle.memory_steps.specs.Forms.{Slots}
-use Rattle.memory_slots.specs.Leaves.{fill}
-use Rattle.memory_readings.specs.Shapes.{Shape}
+use Rattle.memory_words.specs.Leaves.{fill}
+use Rattle.memory_words.specs.Shapes.{Shape}
 use Rattle.memory_words.specs.Regions.{RegionTree, regions_in, regions_inside}
-use Rattle.memory_calls.specs.Sets.{Around, all_named}
+use Rattle.memory_calls.specs.CallSets.{Around, all_named}
 use Rattle.memory_frames.specs.Regions.{fill_regions}
 use Rattle.memory_call_walks.specs.Claimed.{Reads}
 use Rattle.memory_call_walks.specs.Sets.{set_within, unless_empty}

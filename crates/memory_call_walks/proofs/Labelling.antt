@@ -10,8 +10,8 @@ use Rattle.core_trees.specs.View.{view_variables}
 use Rattle.value_terms.specs.Readings.{Term}
 use Rattle.acsl_encode.specs.Readings.{Seen, Terms, nothing}
 use Rattle.memory_steps.specs.Forms.{Slots}
-use Rattle.memory_slots.specs.Places.{answer, answer_offset}
-use Rattle.memory_readings.specs.Readings.{Texts}
+use Rattle.memory_words.specs.Places.{answer, answer_offset}
+use Rattle.memory_words.specs.Readings.{Texts}
 use Rattle.memory_values.specs.OverSlots.{IsLevel}
 use Rattle.memory_annotations.specs.declared.readings.Setting.{Setting}
 use Rattle.memory_annotations.specs.Filled.{filled}

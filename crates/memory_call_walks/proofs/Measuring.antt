@@ -7,7 +7,7 @@ use Rattle.qed_terms.specs.View.{formula_tree}
 use Rattle.core_trees.specs.declared.claims.Measure.{Measure}
 use Rattle.core_trees.specs.View.{view_measure}
 use Rattle.memory_steps.specs.Forms.{Slots}
-use Rattle.memory_slots.specs.Leaves.{fill}
+use Rattle.memory_words.specs.Leaves.{fill}
 use Rattle.memory_call_walks.specs.Claimed.{Reads, lower_tree, lower_in, number_of}
 use Rattle.memory_call_walks.proofs.Pushing.{pushed}
 

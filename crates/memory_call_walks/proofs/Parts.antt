@@ -9,12 +9,12 @@ use Rattle.qed_terms.specs.declared.head.Head.TheVariants as h
 use Rattle.qed_terms.specs.Tree.{Tree, node, more, trees_of, at_most, or_of}
 use Rattle.acsl_encode.specs.Encode.{all_of}
 use Rattle.memory_steps.specs.Forms.{Slots}
-use Rattle.memory_slots.specs.Leaves.{fill, fill_all, is_closed, are_closed}
+use Rattle.memory_words.specs.Leaves.{fill, fill_all, is_closed, are_closed}
 use Rattle.memory_words.specs.Regions.{RegionTree, has_kind, of_kind, any_of, region_within, region_inside, kinds_of, all_region_trees, regions_inside}
 use Rattle.memory_words.specs.Regions as regions
 use Rattle.memory_words.specs.Sets.{under, as_one_unless}
-use Rattle.memory_loops.specs.Words.{or_zero}
-use Rattle.memory_calls.specs.Sets.{only_under}
+use Rattle.memory_calls.specs.LoopWords.{or_zero}
+use Rattle.memory_calls.specs.CallSets.{only_under}
 use Rattle.memory_frames.specs.Asked.{AreClosed}
 use Rattle.memory_frames.specs.Regions.{fill_region, fill_regions}
 use Rattle.memory_call_walks.specs.Claimed.{joined, lower_tree}

@@ -7,15 +7,15 @@ use Rattle.acsl_trees.specs.Tree as acsl
 use Rattle.qed_terms.specs.Tree.{Tree}
 use Rattle.c_runs.specs.Program.{Behavior, Contract, Function, Facts, Measure}
 use Rattle.core_checks.specs.Tree.{Steps}
-use Rattle.memory_readings.specs.Shapes.{FileCells, Shape}
-use Rattle.memory_readings.specs.Readings.{Texts, Standpoint, body_reading}
+use Rattle.memory_words.specs.Shapes.{FileCells, Shape}
+use Rattle.memory_words.specs.Readings.{Texts, Standpoint, body_reading}
 use Rattle.memory_words.specs.Points.{Force, of_function, of_loop, Point}
 use Rattle.memory_words.specs.Regions.{any_of}
 use Rattle.memory_words.specs.Sets.{assumed_tree, under, as_one_unless, since, entry_at}
 use Rattle.memory_calls.specs.Callee.{entered_at, returned_from}
-use Rattle.memory_calls.specs.Sets as words
-use Rattle.memory_calls.specs.Sets.{Around, refuses, inclusion_trees, havoc_by, call_havoc}
-use Rattle.memory_calls.specs.Words.{call_requires, all_required, lower_by, call_promises, all_promised}
+use Rattle.memory_calls.specs.CallSets as words
+use Rattle.memory_calls.specs.CallSets.{Around, refuses, inclusion_trees, havoc_by, call_havoc}
+use Rattle.memory_calls.specs.CallWords.{call_requires, all_required, lower_by, call_promises, all_promised}
 use Rattle.memory_call_walks.specs.Claimed.{joined, required_by, required_in, promised_by, promised_in, lower_in}
 use Rattle.memory_call_walks.specs.Sets.{around, unless_empty, within_by, clause_within, within, inclusion_under, inclusion_by, asked_by, asked_inclusions}
 use Rattle.memory_call_walks.specs.Changes.{changed_by, kinds_of, leave_of, havoc_of}

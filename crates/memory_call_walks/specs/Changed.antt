@@ -4,7 +4,7 @@ use Rattle.wp_base.specs.declared.kinds.CellKind.{CellKind}
 use Rattle.typed_prog.specs.declared.operators.Variable.TheVariants as variables
 use Rattle.memory_steps.specs.Forms.{Slots}
 use Rattle.memory_words.specs.Renewal as words
-use Rattle.memory_havoc.specs.Havoc.{Havoc}
+use Rattle.memory_calls.specs.Havoc.{Havoc}
 use Rattle.memory_frames.specs.declared.frames.Frame.{Frame}
 use Rattle.changed_memories.specs.Flags.{flag_of}
 use Rattle.changed_memories.specs.Changed.{FileChanges, LeaveStands}

@@ -9,7 +9,7 @@ use Rattle.c_runs.specs.Program.{Contract}
 use Rattle.memory_words.specs.Regions.{RegionTree, has_kind, regions_in}
 use Rattle.memory_words.specs.Renewal.{Leave, of_all, of_regions}
 use Rattle.memory_words.specs.Sets.{lacks, since}
-use Rattle.memory_havoc.specs.Havoc.{Havoc}
+use Rattle.memory_calls.specs.Havoc.{Havoc}
 use Rattle.memory_call_walks.specs.Claimed.{Reads}
 
 -- of so many numbers, in order

@@ -6,7 +6,7 @@ use Rattle.acsl_encode.specs.Encode.{term_of}
 use Rattle.qed_terms.specs.Tree.{Tree, num, at_most, less, and_of}
 use Rattle.c_runs.specs.Program.{Claim, Measure, Behavior, Contract}
 use Rattle.memory_words.specs.Sets.{claim_tree, assumed_tree, under}
-use Rattle.memory_loops.specs.Words.{or_zero}
+use Rattle.memory_calls.specs.LoopWords.{or_zero}
 
 -- what each item gives, one behind the other
 abbrev pub joined : {X Y : Type 0} → (X → List Y) → List X → List Y

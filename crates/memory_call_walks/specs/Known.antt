@@ -5,14 +5,14 @@ use Rattle.qed_terms.specs.Meaning as sense
 use Rattle.c_runs.specs.Program.{Contract, Function, Facts}
 use Rattle.core_checks.specs.Tree.{Goal, Steps}
 use Rattle.memory_steps.specs.Step.{Step, seq, know}
-use Rattle.memory_slots.specs.Leaves.{form}
-use Rattle.memory_readings.specs.Shapes.{FileCells, Shape}
-use Rattle.memory_readings.specs.Readings.{Texts}
+use Rattle.memory_words.specs.Leaves.{form}
+use Rattle.memory_words.specs.Shapes.{FileCells, Shape}
+use Rattle.memory_words.specs.Readings.{Texts}
 use Rattle.memory_words.specs.Points.{Point}
 use Rattle.memory_words.specs.Words.{Others}
-use Rattle.memory_havoc.specs.Havoc.{havoc_word}
-use Rattle.memory_calls.specs.Sets.{call_havoc}
-use Rattle.memory_calls.specs.Words.{stay_trees, call_promises, answer_step, answer_term, received}
+use Rattle.memory_calls.specs.Havoc.{havoc_word}
+use Rattle.memory_calls.specs.CallSets.{call_havoc}
+use Rattle.memory_calls.specs.CallWords.{stay_trees, call_promises, answer_step, answer_term, received}
 
 module _ (m : sense.World) (p : Facts) (s : Shape) (cells : FileCells) (texts : Texts) (contract : Contract) (functions : ℕ → Option (Function Steps)) (others : Others) where
   abbrev pub known_word : Point → Goal → Function Steps → t.Values → Step

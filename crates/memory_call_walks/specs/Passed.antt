@@ -7,8 +7,8 @@ use Rattle.value_terms.specs.Readings.{Term}
 use Rattle.value_terms.specs.Words.{words}
 use Rattle.walk_steps.specs.Walk.{Goal}
 use Rattle.memory_steps.specs.State.{Base}
-use Rattle.memory_readings.specs.Shapes.{FileCells, Shape, sizes}
-use Rattle.memory_readings.specs.Readings.{reading}
+use Rattle.memory_words.specs.Shapes.{FileCells, Shape, sizes}
+use Rattle.memory_words.specs.Readings.{reading}
 use Rattle.memory_words.specs.Words.{items_step}
 use Rattle.memory_walks.specs.Walks.{Held, Walks}
 use Rattle.memory_call_walks.specs.View.{Here, here, operands_over}

@@ -6,13 +6,13 @@ use Rattle.qed_terms.specs.View.{term_tree}
 use Rattle.qed_terms.specs.declared.term.Term.{Term}
 use Rattle.c_runs.specs.Program.{Behavior, Contract, Facts}
 use Rattle.memory_steps.specs.Forms.{Slots}
-use Rattle.memory_slots.specs.Leaves.{fill}
-use Rattle.memory_readings.specs.Shapes.{FileCells, Shape}
-use Rattle.memory_readings.specs.Readings.{Texts, Standpoint, body_reading}
+use Rattle.memory_words.specs.Leaves.{fill}
+use Rattle.memory_words.specs.Shapes.{FileCells, Shape}
+use Rattle.memory_words.specs.Readings.{Texts, Standpoint, body_reading}
 use Rattle.memory_words.specs.Points.{Force, of_function, of_loop, Point}
 use Rattle.memory_words.specs.Regions.{RegionTree, any_of, regions_in, regions_inside}
 use Rattle.memory_words.specs.Sets.{assumed_tree, under, as_one_unless, since, entry_at}
-use Rattle.memory_calls.specs.Sets.{only_under, all_named, refuses, Around}
+use Rattle.memory_calls.specs.CallSets.{only_under, all_named, refuses, Around}
 use Rattle.memory_annotations.specs.declared.regions.Region.{Region}
 use Rattle.memory_frames.specs.Regions.{region_trees, fill_regions}
 use Rattle.memory_call_walks.specs.Claimed.{joined, Reads}

@@ -15,10 +15,10 @@ use Rattle.value_terms.specs.Readings.{Term}
 use Rattle.value_terms.specs.Terms.{terms_of}
 use Rattle.acsl_encode.specs.Readings.{Reading, Seen, Terms, Common, Called, nothing}
 use Rattle.memory_steps.specs.Forms.{Slots}
-use Rattle.memory_slots.specs.Leaves.{terms_in, tables_in}
-use Rattle.memory_slots.specs.Places.{answer, answer_offset}
-use Rattle.memory_readings.specs.Shapes.{FileCells, Shape, sizes}
-use Rattle.memory_readings.specs.Readings.{Texts}
+use Rattle.memory_words.specs.Leaves.{terms_in, tables_in}
+use Rattle.memory_words.specs.Places.{answer, answer_offset}
+use Rattle.memory_words.specs.Shapes.{FileCells, Shape, sizes}
+use Rattle.memory_words.specs.Readings.{Texts}
 use Rattle.memory_values.specs.OverSlots.{slot_reading}
 use Rattle.memory_annotations.specs.Seen.{in_call, seen_over, common_with, result_in}
 

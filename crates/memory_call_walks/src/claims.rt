@@ -6,7 +6,7 @@ ghost use Rattle.acsl_trees.specs.Tree.{view_trees};
 ghost use Rattle.core_trees.specs.View.{view_claim};
 ghost use Rattle.memory_call_walks.specs.Claimed as spec;
 ghost use Rattle.memory_frames.specs.Labelled.{Labelled};
-ghost use Rattle.memory_slots.specs.Leaves.{fill};
+ghost use Rattle.memory_words.specs.Leaves.{fill};
 ghost use Rattle.memory_steps.specs.Forms.{Slots};
 ghost use Rattle.memory_words.specs.Sets as words;
 ghost use Rattle.program_trees.specs.View.{view_behavior, view_contract};

@@ -5,9 +5,9 @@ ghost use Rattle.std.specs.Option.{option_map};
 ghost use Rattle.acsl_trees.specs.Tree.{view_tree, view_trees};
 ghost use Rattle.c_runs.specs.Objects.{is_plain_in};
 ghost use Rattle.core_trees.specs.View.{view_variables};
-ghost use Rattle.memory_calls.specs.Sets as words;
-ghost use Rattle.memory_loops.specs.Sets.{region_variable as variable_of};
-ghost use Rattle.memory_readings.specs.Shapes.{Shape};
+ghost use Rattle.memory_calls.specs.CallSets as words;
+ghost use Rattle.memory_calls.specs.LoopSets.{region_variable as variable_of};
+ghost use Rattle.memory_words.specs.Shapes.{Shape};
 ghost use Rattle.program_trees.specs.View.{view_behavior, view_contract, view_facts};
 ghost use Rattle.typed_prog.specs.declared.operators.Variable.TheVariants as variables;
 

@@ -11,21 +11,21 @@ use Rattle.core_runs.specs.Run.{CoreWorld, Ending}
 use Rattle.walk_steps.specs.Forms.{Place as CheckPlace}
 use Rattle.memory_steps.specs.State.{State, number, HasSort}
 use Rattle.memory_steps.specs.Run.{End, goes_on, leaves, fails, on_state, put_back}
-use Rattle.memory_slots.specs.Places.{Place, result, result_offset, answer, answer_offset, Sizes, IsIn, held, number_at, number_in, slot, slots_in, with_held}
-use Rattle.memory_slots.specs.Leaves.{leaf, leaves_of, closed}
-use Rattle.memory_slots.proofs.Leaves.{leaves_are_held, leaf_closed}
-use Rattle.memory_slots.proofs.Holding.{puts_are_held}
+use Rattle.memory_words.specs.Places.{Place, result, result_offset, answer, answer_offset, Sizes, IsIn, held, number_at, number_in, slot, slots_in, with_held}
+use Rattle.memory_words.specs.Leaves.{leaf, leaves_of, closed}
+use Rattle.memory_words.proofs.Leaves.{leaves_are_held, leaf_closed}
+use Rattle.memory_words.proofs.Holding.{puts_are_held}
 use Rattle.program_steps.specs.Temporaries.{Temporaries, no_temporaries, out_at}
-use Rattle.memory_readings.specs.Shapes.{FileCells, Shape, sizes}
-use Rattle.memory_readings.specs.Readings.{term_of_kind}
-use Rattle.memory_readings.specs.Standing.{IsHeldAs, Frame, StandsFor}
-use Rattle.memory_readings.proofs.Sorts.{number_is}
-use Rattle.memory_readings.proofs.Files.{held_same}
+use Rattle.memory_words.specs.Shapes.{FileCells, Shape, sizes}
+use Rattle.memory_words.specs.Readings.{term_of_kind}
+use Rattle.memory_words.specs.Standing.{IsHeldAs, Frame, StandsFor}
+use Rattle.memory_words.proofs.Sorts.{number_is}
+use Rattle.memory_words.proofs.Files.{held_same}
 use Rattle.memory_words.specs.Placed.{Openings, Ends, left_of, all_of, frame_behind}
-use Rattle.memory_puts.specs.Puts.{counts, Keeps, NoPlace, Gives, first_value}
-use Rattle.memory_puts.proofs.Standing.{slots_go_on}
-use Rattle.memory_puts.proofs.Setting.{keeps_own, keeps_put, keeps_all}
-use Rattle.memory_puts.proofs.Valued.{closed_value}
+use Rattle.memory_words.specs.Puts.{counts, Keeps, NoPlace, Gives, first_value}
+use Rattle.memory_words.proofs.PutStanding.{slots_go_on}
+use Rattle.memory_words.proofs.Setting.{keeps_own, keeps_put, keeps_all}
+use Rattle.memory_words.proofs.Valued.{closed_value}
 
 -- both places
 abbrev pub IsAnswer : Place → Type 0

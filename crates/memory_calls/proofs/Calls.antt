@@ -29,26 +29,26 @@ use Rattle.value_terms.specs.Places.{all_met_among}
 use Rattle.memory_steps.specs.State.{State}
 use Rattle.memory_steps.specs.Step.{Step, places, count}
 use Rattle.memory_steps.specs.Step as step
-use Rattle.memory_slots.specs.Leaves.{leaves_of}
+use Rattle.memory_words.specs.Leaves.{leaves_of}
 use Rattle.program_steps.specs.Stops.{broken_place}
 use Rattle.program_steps.specs.Temporaries.{Temporaries, live}
-use Rattle.memory_readings.specs.Shapes.{FileCells, Shape, sizes}
-use Rattle.memory_readings.specs.Readings.{Texts, reading}
-use Rattle.memory_readings.specs.Standing.{Frame, StandsFor}
-use Rattle.memory_readings.specs.Seen.{InSetting}
+use Rattle.memory_words.specs.Shapes.{FileCells, Shape, sizes}
+use Rattle.memory_words.specs.Readings.{Texts, reading}
+use Rattle.memory_words.specs.Standing.{Frame, StandsFor}
+use Rattle.memory_words.specs.Seen.{InSetting}
 use Rattle.memory_words.specs.Points.{Point, uses_of}
 use Rattle.memory_words.specs.Sets.{entry_at}
 use Rattle.memory_words.specs.Words.{Others, items_step, ask_all}
 use Rattle.memory_words.specs.Typed.{ValuesFit}
 use Rattle.memory_words.specs.Placed.{Openings, Placed, Ends, BothWays}
-use Rattle.memory_puts.specs.Values.{AllEvaluate}
-use Rattle.memory_puts.proofs.Valued.{operands_evaluate}
-use Rattle.memory_puts.proofs.Ends.{asks_all, ends_well, after_items}
+use Rattle.memory_words.specs.Values.{AllEvaluate}
+use Rattle.memory_words.proofs.Valued.{operands_evaluate}
+use Rattle.memory_words.proofs.Ends.{asks_all, ends_well, after_items}
 use Rattle.memory_calls.specs.Callee.{entered_at}
-use Rattle.memory_calls.specs.Sets.{inclusion_trees}
-use Rattle.memory_calls.specs.Words.{call_requires, lower_by, behind_call, call_of, call_by}
-use Rattle.memory_calls.specs.Fits.{CallFits}
-use Rattle.memory_calls.specs.Laws.{CallsRun}
+use Rattle.memory_calls.specs.CallSets.{inclusion_trees}
+use Rattle.memory_calls.specs.CallWords.{call_requires, lower_by, behind_call, call_of, call_by}
+use Rattle.memory_calls.specs.CallFits.{CallFits}
+use Rattle.memory_calls.specs.CallLaws.{CallsRun}
 use Rattle.memory_calls.proofs.Views.{entry_stands}
 use Rattle.memory_calls.proofs.Claims.{call_requires_told, is_lower, lower_told}
 use Rattle.memory_calls.proofs.Forces.{entry_read, inclusion_told}

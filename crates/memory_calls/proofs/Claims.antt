@@ -17,19 +17,19 @@ use Rattle.c_runs.specs.Claims as broken
 use Rattle.c_runs.specs.Claims.{Stop, or_stop, unless_true, holds, number_at, claimed, all_hold, is_assumed, is_required, parts_of, ensured_by, is_less}
 use Rattle.core_checks.specs.Tree.{Steps}
 use Rattle.memory_steps.specs.State.{State}
-use Rattle.memory_slots.specs.Leaves.{is_closed, leaves_of}
-use Rattle.memory_readings.specs.Shapes.{FileCells, Shape}
-use Rattle.memory_readings.specs.Readings.{Texts, entry_reading}
-use Rattle.memory_readings.specs.Seen.{ClaimFits, MeasureFits}
+use Rattle.memory_words.specs.Leaves.{is_closed, leaves_of}
+use Rattle.memory_words.specs.Shapes.{FileCells, Shape}
+use Rattle.memory_words.specs.Readings.{Texts, entry_reading}
+use Rattle.memory_words.specs.Seen.{ClaimFits, MeasureFits}
 use Rattle.memory_words.specs.Points.{Point}
 use Rattle.memory_words.specs.Sets.{or_none, claim_tree, assumed_tree, under, entry_at}
 use Rattle.memory_words.specs.Typed.{AllOf}
 use Rattle.memory_words.specs.Placed.{all_told}
-use Rattle.memory_loops.specs.Words.{or_zero}
+use Rattle.memory_calls.specs.LoopWords.{or_zero}
 use Rattle.memory_calls.specs.Callee.{entered_at, returned_from}
-use Rattle.memory_calls.specs.Sets.{callee_assumes}
-use Rattle.memory_calls.specs.Words.{entry_claim, required_trees, all_required, call_requires, lower_by, promise, promised_trees, all_promised, call_promises}
-use Rattle.memory_calls.specs.Fits.{CalleeBehaviorFits, IfMeasured, CalleeFits}
+use Rattle.memory_calls.specs.CallSets.{callee_assumes}
+use Rattle.memory_calls.specs.CallWords.{entry_claim, required_trees, all_required, call_requires, lower_by, promise, promised_trees, all_promised, call_promises}
+use Rattle.memory_calls.specs.CallFits.{CalleeBehaviorFits, IfMeasured, CalleeFits}
 use Rattle.memory_calls.proofs.Tells.{and_so, Tells, AllTell, none_tell, more_tell, both_tell, all_as, all_tell, they_tell, one_tells, under_tells}
 
 module _ (m : sense.World) (p : Facts) (s : Shape) (cells : FileCells) (texts : Texts) (sts : List State) where

@@ -15,19 +15,19 @@ use Rattle.memory_steps.specs.Step.{Change}
 use Rattle.memory_steps.specs.Step as step
 use Rattle.memory_steps.specs.Run.{goes_on, Changes, Changed, Seg}
 use Rattle.memory_steps.specs.Run as seg
-use Rattle.memory_slots.specs.Places.{Place, value, offset, flag, result, result_offset, answer, answer_offset, temporary, temporary_offset, numbers, blocks, offsets, Sizes, IsIn, held, number_at, slots_in, with_held, changes_by}
-use Rattle.memory_slots.specs.Leaves.{fact}
-use Rattle.memory_slots.proofs.Holding.{puts_are_held, slots_are_what_places_hold}
+use Rattle.memory_words.specs.Places.{Place, value, offset, flag, result, result_offset, answer, answer_offset, temporary, temporary_offset, numbers, blocks, offsets, Sizes, IsIn, held, number_at, slots_in, with_held, changes_by}
+use Rattle.memory_words.specs.Leaves.{fact}
+use Rattle.memory_words.proofs.Holding.{puts_are_held, slots_are_what_places_hold}
 use Rattle.program_steps.specs.Temporaries.{Temporaries}
-use Rattle.memory_readings.specs.Shapes.{FileCells, Shape, sizes}
-use Rattle.memory_readings.specs.Readings.{Texts}
-use Rattle.memory_readings.specs.Standing.{IsHeldAs}
-use Rattle.memory_readings.proofs.Sorts.{changed_number}
-use Rattle.memory_puts.specs.Puts.{counts, Keeps, NoPlace, with_two}
-use Rattle.memory_puts.proofs.Setting.{keeps_two, keeps_all, two_held}
-use Rattle.memory_havoc.specs.Havoc.{first_change, second_change, range_facts}
-use Rattle.memory_havoc.proofs.Values.{value_of, first_of, held_so, content_parts, range_told}
-use Rattle.memory_calls.specs.Words.{answer_change, answer_step}
+use Rattle.memory_words.specs.Shapes.{FileCells, Shape, sizes}
+use Rattle.memory_words.specs.Readings.{Texts}
+use Rattle.memory_words.specs.Standing.{IsHeldAs}
+use Rattle.memory_words.proofs.Sorts.{changed_number}
+use Rattle.memory_words.specs.Puts.{counts, Keeps, NoPlace, with_two}
+use Rattle.memory_words.proofs.Setting.{keeps_two, keeps_all, two_held}
+use Rattle.memory_calls.specs.Havoc.{first_change, second_change, range_facts}
+use Rattle.memory_calls.proofs.Values.{value_of, first_of, held_so, content_parts, range_told}
+use Rattle.memory_calls.specs.CallWords.{answer_change, answer_step}
 use Rattle.memory_calls.proofs.Answers.{IsAnswer, no_counted}
 
 -- ---- they are filled

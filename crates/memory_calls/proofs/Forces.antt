@@ -16,28 +16,28 @@ use Rattle.c_runs.specs.Claims.{holds, is_assumed, in_state, regions_of, granted
 use Rattle.core_checks.specs.Tree.{Steps}
 use Rattle.goal_segments.specs.Sets.{some_inside, call_inside}
 use Rattle.memory_steps.specs.State.{State}
-use Rattle.memory_slots.specs.Leaves.{leaves_of}
-use Rattle.memory_readings.specs.Shapes.{FileCells, Shape}
-use Rattle.memory_readings.specs.Readings.{Texts, Standpoint, body_reading, entry_reading}
-use Rattle.memory_readings.specs.Standing.{Frame}
-use Rattle.memory_readings.specs.Seen.{InSetting, ClaimFits}
-use Rattle.memory_readings.proofs.Worlds.{annotations_read}
+use Rattle.memory_words.specs.Leaves.{leaves_of}
+use Rattle.memory_words.specs.Shapes.{FileCells, Shape}
+use Rattle.memory_words.specs.Readings.{Texts, Standpoint, body_reading, entry_reading}
+use Rattle.memory_words.specs.Standing.{Frame}
+use Rattle.memory_words.specs.Seen.{InSetting, ClaimFits}
+use Rattle.memory_words.proofs.Worlds.{annotations_read}
 use Rattle.memory_words.specs.Points.{Force, of_function, of_loop, Point}
 use Rattle.memory_words.specs.Regions.{any_of, regions_in, regions_inside}
 use Rattle.memory_words.specs.Sets.{under, since, entry_at, assumed_at}
 use Rattle.memory_words.specs.Typed.{AllOf}
 use Rattle.memory_words.specs.Placed.{Openings, Placed, OfFunction, OfLoop, GrantedBy, all_told}
-use Rattle.memory_stores.specs.Regions.{set_of}
-use Rattle.memory_loops.specs.Fits.{SetRegion, SetRegions, ClauseFits, ForceFits}
-use Rattle.memory_loops.proofs.Regions.{body_plain, entry_plain, regions_are, regions_closed, names_so}
-use Rattle.memory_loops.proofs.Clauses.{since_is}
-use Rattle.memory_loops.proofs.Formulas.{assumed_closed, assumed_is}
-use Rattle.memory_loops.proofs.Inside.{at_level}
+use Rattle.memory_statements.specs.Regions.{set_of}
+use Rattle.memory_calls.specs.LoopFits.{SetRegion, SetRegions, ClauseFits, ForceFits}
+use Rattle.memory_calls.proofs.Regions.{body_plain, entry_plain, regions_are, regions_closed, names_so}
+use Rattle.memory_calls.proofs.Clauses.{since_is}
+use Rattle.memory_calls.proofs.Formulas.{assumed_closed, assumed_is}
+use Rattle.memory_calls.proofs.LoopInside.{at_level}
 use Rattle.memory_calls.specs.Callee.{entered_at}
-use Rattle.memory_calls.specs.Sets.{Around, lies_outside, is_unset, refuses, all_named, clause_in, clauses_in, included, clause_set, included_in, included_in_all, included_by, unless_nothing, inclusion_trees, callee_regions}
-use Rattle.memory_calls.specs.Fits.{CalleeFits}
+use Rattle.memory_calls.specs.CallSets.{Around, lies_outside, is_unset, refuses, all_named, clause_in, clauses_in, included, clause_set, included_in, included_in_all, included_by, unless_nothing, inclusion_trees, callee_regions}
+use Rattle.memory_calls.specs.CallFits.{CalleeFits}
 use Rattle.memory_calls.proofs.Tells.{and_so, all_append, AllTell, under_tells, none_tell, more_tell, both_tell, all_as, unless_tells, one_tells}
-use Rattle.memory_calls.proofs.Inside.{AroundIs, included_tells}
+use Rattle.memory_calls.proofs.CallInside.{AroundIs, included_tells}
 
 -- ---- a clause that refuses
 

@@ -29,30 +29,30 @@ use Rattle.typed_memories.proofs.Tests.{on_test}
 use Rattle.memory_changes.specs.Changes.{Sets}
 use Rattle.memory_changes.proofs.Tables.{cell_below, test_lt, not_le_test}
 use Rattle.memory_steps.specs.State.{State, state}
-use Rattle.memory_slots.specs.Leaves.{leaves_of}
+use Rattle.memory_words.specs.Leaves.{leaves_of}
 use Rattle.walk_steps.specs.State.{at_or}
-use Rattle.memory_readings.specs.Shapes.{FileCells, Shape}
-use Rattle.memory_readings.specs.Readings.{Texts}
-use Rattle.memory_readings.specs.Seen.{InSetting, ClaimFits}
-use Rattle.memory_readings.proofs.Contents.{hidden_negative, open_address, hidden_cell}
+use Rattle.memory_words.specs.Shapes.{FileCells, Shape}
+use Rattle.memory_words.specs.Readings.{Texts}
+use Rattle.memory_words.specs.Seen.{InSetting, ClaimFits}
+use Rattle.memory_words.proofs.Contents.{hidden_negative, open_address, hidden_cell}
 use Rattle.memory_words.specs.Regions.{of_kind, regions_in}
 use Rattle.memory_words.specs.Sets.{has_variable, lacks, since}
 use Rattle.memory_words.specs.Typed.{AllOf}
-use Rattle.memory_renewals.specs.Renewed.{regions_at, LeaveIs}
-use Rattle.memory_stores.specs.Regions.{set_of}
-use Rattle.memory_havoc.specs.Havoc.{Havoc}
-use Rattle.memory_havoc.specs.Laws.{BehaviorFits, StaysBy, BehaviorStays}
-use Rattle.memory_loops.specs.Sets.{some_has}
-use Rattle.memory_loops.specs.Fits.{SetRegion, SetRegions}
-use Rattle.memory_loops.proofs.Regions.{regions_closed, global_hidden, names_so}
-use Rattle.memory_loops.proofs.Clauses.{since_is, clause_lies}
-use Rattle.memory_loops.proofs.Formulas.{assumed_closed, assumed_is}
-use Rattle.memory_loops.proofs.Inside.{at_level}
-use Rattle.memory_loops.proofs.Taken.{taken, taken_leave, taken_lies, taken_stays}
+use Rattle.memory_statements.specs.Renewed.{regions_at, LeaveIs}
+use Rattle.memory_statements.specs.Regions.{set_of}
+use Rattle.memory_calls.specs.Havoc.{Havoc}
+use Rattle.memory_calls.specs.HavocLaws.{BehaviorFits, StaysBy, BehaviorStays}
+use Rattle.memory_calls.specs.LoopSets.{some_has}
+use Rattle.memory_calls.specs.LoopFits.{SetRegion, SetRegions}
+use Rattle.memory_calls.proofs.Regions.{regions_closed, global_hidden, names_so}
+use Rattle.memory_calls.proofs.Clauses.{since_is, clause_lies}
+use Rattle.memory_calls.proofs.Formulas.{assumed_closed, assumed_is}
+use Rattle.memory_calls.proofs.LoopInside.{at_level}
+use Rattle.memory_calls.proofs.Taken.{taken, taken_leave, taken_lies, taken_stays}
 use Rattle.memory_calls.specs.Callee.{entered_at}
-use Rattle.memory_calls.specs.Sets.{callee_assumes, callee_regions, havoc_by}
-use Rattle.memory_calls.specs.Fits.{no_local, CalleeBehaviorFits, CalleeFits}
-use Rattle.memory_calls.proofs.Inside.{callee_plain}
+use Rattle.memory_calls.specs.CallSets.{callee_assumes, callee_regions, havoc_by}
+use Rattle.memory_calls.specs.CallFits.{no_local, CalleeBehaviorFits, CalleeFits}
+use Rattle.memory_calls.proofs.CallInside.{callee_plain}
 
 -- what isn't there has no address of its own
 no_home : (n k : ℕ) (vs : List Variable) (x : ℕ) → slice_get vs x ≡ None → is_negative (home_from n k vs x) ≡ false

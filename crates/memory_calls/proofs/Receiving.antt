@@ -33,27 +33,27 @@ use Rattle.memory_steps.specs.State.{State}
 use Rattle.memory_steps.specs.Step.{Step, skip, places, count as checks_in}
 use Rattle.memory_steps.specs.Run.{End, goes_on, Seg}
 use Rattle.memory_steps.specs.Run as seg
-use Rattle.memory_slots.specs.Places.{answer}
+use Rattle.memory_words.specs.Places.{answer}
 use Rattle.program_steps.specs.Stops.{broken_place}
 use Rattle.program_steps.specs.Temporaries.{Temporaries}
-use Rattle.memory_readings.specs.Shapes.{FileCells, Shape, sizes, kind_of}
-use Rattle.memory_readings.specs.Readings.{Texts}
-use Rattle.memory_readings.specs.Standing.{Frame, StandsFor}
-use Rattle.memory_readings.specs.Seen.{InSetting}
+use Rattle.memory_words.specs.Shapes.{FileCells, Shape, sizes, kind_of}
+use Rattle.memory_words.specs.Readings.{Texts}
+use Rattle.memory_words.specs.Standing.{Frame, StandsFor}
+use Rattle.memory_words.specs.Seen.{InSetting}
 use Rattle.memory_words.specs.Points.{Out, Point, deeper_out, uses_of, remembered}
 use Rattle.memory_words.specs.Sets.{variable_trees}
 use Rattle.memory_words.specs.Words as word
 use Rattle.memory_words.specs.Words.{Others, ask_all, set_variable}
 use Rattle.memory_words.specs.Typed.{Takes}
 use Rattle.memory_words.specs.Placed.{Openings, Placed, Ends, BothWays, all_told}
-use Rattle.memory_stores.specs.Stored.{IsWay}
-use Rattle.memory_stores.proofs.Receiving.{cells_receive, blocks_receive}
-use Rattle.memory_puts.specs.Puts.{NoPlace, Gives, OneEnd, Reaches, ScopeHas}
-use Rattle.memory_puts.proofs.Standing.{slots_go_on}
-use Rattle.memory_puts.proofs.Setting.{keeps_own, temporaries_are_set, locals_are_set, globals_are_set}
-use Rattle.memory_puts.proofs.Ends.{one_end, behind_one_end, asked_run}
-use Rattle.memory_calls.specs.Words.{received}
-use Rattle.memory_calls.specs.Fits.{Receives, by_nothing, by_temporary, by_local, by_global, by_cell, by_variable}
+use Rattle.memory_statements.specs.Stored.{IsWay}
+use Rattle.memory_statements.proofs.Receiving.{cells_receive, blocks_receive}
+use Rattle.memory_words.specs.Puts.{NoPlace, Gives, OneEnd, Reaches, ScopeHas}
+use Rattle.memory_words.proofs.PutStanding.{slots_go_on}
+use Rattle.memory_words.proofs.Setting.{keeps_own, temporaries_are_set, locals_are_set, globals_are_set}
+use Rattle.memory_words.proofs.Ends.{one_end, behind_one_end, asked_run}
+use Rattle.memory_calls.specs.CallWords.{received}
+use Rattle.memory_calls.specs.CallFits.{Receives, by_nothing, by_temporary, by_local, by_global, by_cell, by_variable}
 
 skip_end : (olds : List State) (st : State) → OneEnd olds skip st st
 skip_end olds st = record { runs = λ n. seg.skips; only = λ n e h. only n e h } where

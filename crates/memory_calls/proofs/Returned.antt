@@ -26,21 +26,21 @@ use Rattle.memory_steps.specs.Step as step
 use Rattle.memory_steps.specs.Run.{End, goes_on, Seg}
 use Rattle.memory_steps.specs.Run as seg
 use Rattle.memory_steps.proofs.Readings.{change_way}
-use Rattle.memory_slots.specs.Places.{answer, answer_offset}
+use Rattle.memory_words.specs.Places.{answer, answer_offset}
 use Rattle.program_steps.specs.Temporaries.{Temporaries}
-use Rattle.memory_readings.specs.Shapes.{FileCells, Shape, sizes, is_pointer_cell}
-use Rattle.memory_readings.specs.Readings.{Texts}
-use Rattle.memory_readings.specs.Standing.{Frame, StandsFor}
-use Rattle.memory_readings.specs.Seen.{InSetting}
-use Rattle.memory_readings.proofs.Contents.{content_is}
+use Rattle.memory_words.specs.Shapes.{FileCells, Shape, sizes, is_pointer_cell}
+use Rattle.memory_words.specs.Readings.{Texts}
+use Rattle.memory_words.specs.Standing.{Frame, StandsFor}
+use Rattle.memory_words.specs.Seen.{InSetting}
+use Rattle.memory_words.proofs.Contents.{content_is}
 use Rattle.memory_words.specs.Points.{Point, uses_of, remembered}
 use Rattle.memory_words.specs.Words.{Others}
 use Rattle.memory_words.specs.Placed.{Openings, Placed, Ends, BothWays}
-use Rattle.memory_puts.specs.Puts.{Gives}
-use Rattle.memory_puts.proofs.Standing.{slots_go_on}
-use Rattle.memory_havoc.proofs.Values.{content_value, integer_anywhere}
-use Rattle.memory_calls.specs.Words.{answer_step, answer_term, received}
-use Rattle.memory_calls.specs.Fits.{ResultGoes, none_nowhere, none_to, goes_to, by_nothing, by_temporary}
+use Rattle.memory_words.specs.Puts.{Gives}
+use Rattle.memory_words.proofs.PutStanding.{slots_go_on}
+use Rattle.memory_calls.proofs.Values.{content_value, integer_anywhere}
+use Rattle.memory_calls.specs.CallWords.{answer_step, answer_term, received}
+use Rattle.memory_calls.specs.CallFits.{ResultGoes, none_nowhere, none_to, goes_to, by_nothing, by_temporary}
 use Rattle.memory_calls.proofs.Views.{AnswerIs}
 use Rattle.memory_calls.proofs.Answers.{answer_gives}
 use Rattle.memory_calls.proofs.Filling.{Filled, with_answer, fills, filled_so, answered, filled_then}

@@ -12,11 +12,11 @@ use Rattle.memory_steps.specs.Step.{Step, places, count}
 use Rattle.memory_steps.specs.Step as step
 use Rattle.program_steps.specs.Stops.{IsStop}
 use Rattle.program_steps.specs.Temporaries.{Temporaries}
-use Rattle.memory_readings.specs.Shapes.{FileCells, Shape, sizes}
-use Rattle.memory_readings.specs.Standing.{Frame, StandsFor, FileStands}
+use Rattle.memory_words.specs.Shapes.{FileCells, Shape, sizes}
+use Rattle.memory_words.specs.Standing.{Frame, StandsFor, FileStands}
 use Rattle.memory_words.specs.Words.{ask_all}
 use Rattle.memory_words.specs.Placed.{Openings, Ends, BothWays, all_told}
-use Rattle.memory_puts.proofs.Ends.{ends_well, ask_either}
+use Rattle.memory_words.proofs.Ends.{ends_well, ask_either}
 
 -- it stops so, or goes on to what comes later
 abbrev pub Stage : Option Stop → (Ending → Type 0) → Ending → Type 0

@@ -23,26 +23,26 @@ use Rattle.memory_steps.specs.Step.{count}
 use Rattle.memory_steps.specs.Run.{End, goes_on, on_state, put_back, IsOver, Seg}
 use Rattle.memory_steps.specs.Run as seg
 use Rattle.memory_steps.proofs.Readings.{seq_ways, knows_then, scope_way, remember_way}
-use Rattle.memory_slots.specs.Places.{answer, answer_offset, temporary, temporary_offset, number_at}
-use Rattle.memory_slots.specs.Leaves.{form, leaves_of}
-use Rattle.memory_readings.specs.Shapes.{sizes}
-use Rattle.memory_readings.specs.Standing.{TempIs}
+use Rattle.memory_words.specs.Places.{answer, answer_offset, temporary, temporary_offset, number_at}
+use Rattle.memory_words.specs.Leaves.{form, leaves_of}
+use Rattle.memory_words.specs.Shapes.{sizes}
+use Rattle.memory_words.specs.Standing.{TempIs}
 use Rattle.memory_words.specs.Points.{remembered}
 use Rattle.memory_words.specs.Typed.{ValuesFit}
 use Rattle.memory_words.specs.Placed.{all_told, FailsAs}
-use Rattle.memory_scopes.proofs.Remembering.{places_are_remembered}
-use Rattle.memory_puts.proofs.Asking.{behind}
-use Rattle.memory_puts.proofs.Listing.{comes, fails_second}
-use Rattle.memory_puts.proofs.Ends.{ends_well}
-use Rattle.memory_havoc.specs.Havoc.{Havoc, havoc_word}
-use Rattle.memory_havoc.specs.Laws.{GoesOn, SameUntold, HavocIs}
-use Rattle.memory_havoc.proofs.Runs.{havoc_runs}
-use Rattle.memory_havoc.proofs.Staying.{stays_mean}
+use Rattle.memory_statements.proofs.Remembering.{places_are_remembered}
+use Rattle.memory_words.proofs.Asking.{behind}
+use Rattle.memory_words.proofs.PutListing.{comes, fails_second}
+use Rattle.memory_words.proofs.Ends.{ends_well}
+use Rattle.memory_calls.specs.Havoc.{Havoc, havoc_word}
+use Rattle.memory_calls.specs.HavocLaws.{GoesOn, SameUntold, HavocIs}
+use Rattle.memory_calls.proofs.Runs.{havoc_runs}
+use Rattle.memory_calls.proofs.HavocStaying.{stays_mean}
 use Rattle.memory_words.specs.Sets.{since}
-use Rattle.memory_loops.proofs.Coming.{all_known, known_all}
+use Rattle.memory_calls.proofs.Coming.{all_known, known_all}
 use Rattle.memory_calls.specs.Callee.{entered_at}
-use Rattle.memory_calls.specs.Sets.{callee_assumes, changed_variable, havoc_by, call_havoc}
-use Rattle.memory_calls.specs.Words.{stay_trees, call_promises, answer_step, answer_term, received}
+use Rattle.memory_calls.specs.CallSets.{callee_assumes, changed_variable, havoc_by, call_havoc}
+use Rattle.memory_calls.specs.CallWords.{stay_trees, call_promises, answer_step, answer_term, received}
 use Rattle.memory_calls.proofs.Views.{entry_stands, return_stands, AnswerIs}
 use Rattle.memory_calls.proofs.Claims.{is_none, call_promises_told}
 use Rattle.memory_calls.proofs.Stages.{file_of}
@@ -65,15 +65,15 @@ use Rattle.value_terms.specs.Places.{all_met_among}
 use Rattle.memory_steps.specs.State.{State}
 use Rattle.memory_steps.specs.Step.{Step, places}
 use Rattle.program_steps.specs.Temporaries.{Temporaries, live}
-use Rattle.memory_readings.specs.Shapes.{FileCells, Shape}
-use Rattle.memory_readings.specs.Readings.{Texts}
-use Rattle.memory_readings.specs.Standing.{Frame, StandsFor}
-use Rattle.memory_readings.specs.Seen.{InSetting}
+use Rattle.memory_words.specs.Shapes.{FileCells, Shape}
+use Rattle.memory_words.specs.Readings.{Texts}
+use Rattle.memory_words.specs.Standing.{Frame, StandsFor}
+use Rattle.memory_words.specs.Seen.{InSetting}
 use Rattle.memory_words.specs.Points.{Point, uses_of}
 use Rattle.memory_words.specs.Words.{Others}
 use Rattle.memory_words.specs.Placed.{Openings, Placed, Ends, BothWays}
-use Rattle.memory_calls.specs.Words.{behind_call}
-use Rattle.memory_calls.specs.Fits.{CallFits}
+use Rattle.memory_calls.specs.CallWords.{behind_call}
+use Rattle.memory_calls.specs.CallFits.{CallFits}
 
 goes_parts : {a b : State} → goes_on a ≡ goes_on b → a ≡ b
 goes_parts e = cc

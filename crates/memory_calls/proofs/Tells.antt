@@ -7,14 +7,14 @@ use Rattle.qed_terms.specs.Meaning.{Values, each_true, some_true, meanings, trut
 use Rattle.qed_terms.specs.Tree.{Tree, trees_of}
 use Rattle.acsl_encode.specs.Encode.{all_of}
 use Rattle.memory_steps.specs.State.{State}
-use Rattle.memory_slots.specs.Leaves.{is_closed, closed, leaves_of}
-use Rattle.memory_puts.proofs.Valued.{closed_told}
+use Rattle.memory_words.specs.Leaves.{is_closed, closed, leaves_of}
+use Rattle.memory_words.proofs.Valued.{closed_told}
 use Rattle.memory_words.specs.Regions.{any_of}
 use Rattle.memory_words.specs.Sets.{under, as_one, as_one_unless}
 use Rattle.memory_words.specs.Placed.{all_told}
-use Rattle.memory_loops.proofs.Clauses.{any_closed}
-use Rattle.memory_loops.proofs.Formulas.{all_closed}
-use Rattle.memory_calls.specs.Sets.{only_under}
+use Rattle.memory_calls.proofs.Clauses.{any_closed}
+use Rattle.memory_calls.proofs.Formulas.{all_closed}
+use Rattle.memory_calls.specs.CallSets.{only_under}
 
 pub and_so : (b : Bool) → (b && true) ≡ b
 and_so true = refl

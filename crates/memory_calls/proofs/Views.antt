@@ -36,22 +36,22 @@ use Rattle.value_terms.specs.Places.{AreMeant, all_met_among}
 use Rattle.value_terms.proofs.Places.{operands_are_meant}
 use Rattle.walk_steps.specs.State.{at_or}
 use Rattle.memory_steps.specs.State.{State, state}
-use Rattle.memory_slots.specs.Places.{answer, answer_offset, number_at}
-use Rattle.memory_slots.specs.Leaves.{leaves_of}
-use Rattle.memory_slots.proofs.Leaves.{leaves_are_held}
+use Rattle.memory_words.specs.Places.{answer, answer_offset, number_at}
+use Rattle.memory_words.specs.Leaves.{leaves_of}
+use Rattle.memory_words.proofs.Leaves.{leaves_are_held}
 use Rattle.program_steps.specs.Temporaries.{Temporaries}
-use Rattle.memory_readings.specs.Shapes.{FileCells, Shape, sizes, kind_of}
-use Rattle.memory_readings.specs.Readings as reading
-use Rattle.memory_readings.specs.Readings.{Texts, leaf, terms_of_kind, reading_at, common_of, entry_reading}
-use Rattle.memory_readings.specs.Standing.{IsHeldAs, Frame, AllLive, StandsFor, FileStands}
-use Rattle.memory_readings.specs.Seen.{InSetting, SeenByContract, scope_at}
-use Rattle.memory_readings.proofs.Contents.{content_address, local_cell}
-use Rattle.memory_readings.proofs.Contracts.{contracts_see}
-use Rattle.memory_readings.proofs.Levels.{levels_are}
-use Rattle.memory_readings.proofs.Worlds.{annotations_read}
-use Rattle.memory_stores.proofs.Levels.{levels_read}
+use Rattle.memory_words.specs.Shapes.{FileCells, Shape, sizes, kind_of}
+use Rattle.memory_words.specs.Readings as reading
+use Rattle.memory_words.specs.Readings.{Texts, leaf, terms_of_kind, reading_at, common_of, entry_reading}
+use Rattle.memory_words.specs.Standing.{IsHeldAs, Frame, AllLive, StandsFor, FileStands}
+use Rattle.memory_words.specs.Seen.{InSetting, SeenByContract, scope_at}
+use Rattle.memory_words.proofs.Contents.{content_address, local_cell}
+use Rattle.memory_words.proofs.Contracts.{contracts_see}
+use Rattle.memory_words.proofs.Levels.{levels_are}
+use Rattle.memory_words.proofs.Worlds.{annotations_read}
+use Rattle.memory_statements.proofs.Levels.{levels_read}
 use Rattle.memory_calls.specs.Callee.{argument, argument_slot, param_slot, callee_slot, callee_seen, entered_at, returned_from}
-use Rattle.memory_calls.specs.Fits.{no_local}
+use Rattle.memory_calls.specs.CallFits.{no_local}
 
 -- ---- parameters as a contract sees them
 

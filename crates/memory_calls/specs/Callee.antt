@@ -14,9 +14,9 @@ use Rattle.value_terms.specs.Readings.{Term, number_term, block_term, offset_ter
 use Rattle.value_terms.specs.Terms.{terms_of}
 use Rattle.acsl_encode.specs.Readings as annotation
 use Rattle.acsl_encode.specs.Readings.{Slot, whole, pointer, absent, Seen, nothing}
-use Rattle.memory_slots.specs.Places.{answer, answer_offset}
-use Rattle.memory_readings.specs.Shapes.{FileCells, Shape, kind_of}
-use Rattle.memory_readings.specs.Readings.{Texts, reading_at, leaf, global_slot, seen_by, common_of, terms_of_kind}
+use Rattle.memory_words.specs.Places.{answer, answer_offset}
+use Rattle.memory_words.specs.Shapes.{FileCells, Shape, kind_of}
+use Rattle.memory_words.specs.Readings.{Texts, reading_at, leaf, global_slot, seen_by, common_of, terms_of_kind}
 
 module _ (p : Facts) (s : Shape) (cells : FileCells) where
   -- the terms of operands in the state of a level

@@ -1,5 +1,13 @@
+pub mod Havoc
+pub mod Stays
+pub mod HavocLaws
+pub mod Sorts
+pub mod LoopSets
+pub mod LoopWords
+pub mod LoopFits
+pub mod LoopLaws
 pub mod Callee
-pub mod Sets
-pub mod Words
-pub mod Fits
-pub mod Laws
+pub mod CallSets
+pub mod CallWords
+pub mod CallFits
+pub mod CallLaws

@@ -22,16 +22,16 @@ use Rattle.memory_steps.specs.Step.{Step, places}
 use Rattle.memory_steps.specs.Run.{End, goes_on, leaves, fails, Seg}
 use Rattle.memory_steps.specs.Laws.{Fails}
 use Rattle.memory_steps.proofs.Exact as walked
-use Rattle.memory_readings.specs.Shapes.{FileCells, Shape}
-use Rattle.memory_readings.specs.Readings.{Texts}
+use Rattle.memory_words.specs.Shapes.{FileCells, Shape}
+use Rattle.memory_words.specs.Readings.{Texts}
 use Rattle.memory_words.specs.Placed.{IsPlace, FailsAs}
 use Rattle.memory_words.specs.Words.{Others}
 use Rattle.memory_words.specs.Typed.{OtherFits}
-use Rattle.memory_goals.specs.Words.{Written, shape_in}
-use Rattle.memory_functions.specs.Functions.{EntersAs, FunctionEnds, FunctionRuns}
+use Rattle.memory_functions.specs.Words.{Written, shape_in}
+use Rattle.memory_functions.specs.FunctionFunctions.{EntersAs, FunctionEnds, FunctionRuns}
 use Rattle.memory_functions.proofs.Wholes.{functions_run}
-use Rattle.memory_starts.proofs.Starting.{entries_start}
-use Rattle.memory_starts.proofs.Entering.{starts_enter}
+use Rattle.memory_functions.proofs.Starting.{entries_start}
+use Rattle.memory_functions.proofs.Entering.{starts_enter}
 use Rattle.memory_exact.specs.Programs.{word_with, start, bases, goals_with, FunctionIn}
 use Rattle.memory_exact.specs.Laws.{SomeStops, StopsAt, SomeStopsAt, CheckIsExact, GoalsAreInOrder, GoalsAreExact, GoalsAreExactByCheck, StopsHaveGoals, ValidGoalsSuffice, FalsifiedGoalsFail}
 use Rattle.memory_exact.proofs.Fitting.{are_fit}

@@ -15,19 +15,19 @@ use Rattle.memory_steps.specs.Forms.{AreClaims}
 use Rattle.memory_steps.specs.Step.{sort_at}
 use Rattle.memory_steps.specs.Laws as steps
 use Rattle.memory_steps.specs.Laws.{Origin, fixed, Away, OriginsFit, AreFit}
-use Rattle.memory_slots.specs.Places.{Place, Sizes, IsIn, value, offset, flag, result, result_offset, answer, answer_offset, temporary, temporary_offset, numbers, blocks, offsets, slot, places}
-use Rattle.memory_slots.specs.Leaves.{claim}
-use Rattle.memory_slots.proofs.Listing.{slots_of_places}
-use Rattle.memory_slots.proofs.Filling.{forms_are_good}
-use Rattle.memory_readings.specs.Shapes.{FileCells, sizes, is_memory}
-use Rattle.memory_readings.specs.Readings.{Texts}
+use Rattle.memory_words.specs.Places.{Place, Sizes, IsIn, value, offset, flag, result, result_offset, answer, answer_offset, temporary, temporary_offset, numbers, blocks, offsets, slot, places}
+use Rattle.memory_words.specs.Leaves.{claim}
+use Rattle.memory_words.proofs.SlotListing.{slots_of_places}
+use Rattle.memory_words.proofs.Filling.{forms_are_good}
+use Rattle.memory_words.specs.Shapes.{FileCells, sizes, is_memory}
+use Rattle.memory_words.specs.Readings.{Texts}
 use Rattle.memory_words.specs.Words.{Others}
 use Rattle.memory_words.specs.Typed.{OtherFits}
 use Rattle.memory_words.specs.Bases.{AreSorted}
-use Rattle.memory_goals.specs.Starting.{own_if, origin_of, start_trees}
-use Rattle.memory_goals.specs.Words.{Written, shape_in}
-use Rattle.memory_goodness.proofs.Good.{functions_are_good}
-use Rattle.memory_goodness.proofs.Staying.{functions_are_bracketed}
+use Rattle.memory_functions.specs.Starting.{own_if, origin_of, start_trees}
+use Rattle.memory_functions.specs.Words.{Written, shape_in}
+use Rattle.memory_functions.proofs.Good.{functions_are_good}
+use Rattle.memory_functions.proofs.Staying.{functions_are_bracketed}
 use Rattle.memory_exact.specs.Programs.{word_with, start, bases, FunctionIn}
 
 -- ---- bases

@@ -18,13 +18,13 @@ use Rattle.memory_steps.specs.State.{State}
 use Rattle.memory_steps.specs.Step.{places, count}
 use Rattle.memory_steps.specs.Run as steps
 use Rattle.memory_steps.specs.Laws.{Starts, IsExact}
-use Rattle.memory_readings.specs.Shapes.{FileCells}
-use Rattle.memory_readings.specs.Readings.{Texts}
+use Rattle.memory_words.specs.Shapes.{FileCells}
+use Rattle.memory_words.specs.Readings.{Texts}
 use Rattle.memory_words.specs.Placed.{FailsAs}
 use Rattle.memory_words.specs.Words.{Others}
 use Rattle.memory_words.specs.Typed.{OtherFits}
-use Rattle.memory_goals.specs.Words.{Written, shape_in}
-use Rattle.memory_functions.specs.Functions.{EntersAs}
+use Rattle.memory_functions.specs.Words.{Written, shape_in}
+use Rattle.memory_functions.specs.FunctionFunctions.{EntersAs}
 use Rattle.memory_exact.specs.Programs.{word_with, start, bases, goals_with, FunctionIn}
 
 -- a segment run of the function, from a world in which it is entered as it asks for, goes wrong so

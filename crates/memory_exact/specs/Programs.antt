@@ -11,19 +11,19 @@ use Rattle.memory_steps.specs.World.{AreBases}
 use Rattle.memory_steps.specs.Step.{Step}
 use Rattle.memory_steps.specs.Laws as steps
 use Rattle.memory_steps.specs.Laws.{Start, goals}
-use Rattle.memory_slots.specs.Places.{Place, IsIn}
-use Rattle.memory_readings.specs.Shapes.{FileCells, sizes}
-use Rattle.memory_readings.specs.Readings.{Texts}
-use Rattle.memory_readings.specs.Seen.{InSetting}
+use Rattle.memory_words.specs.Places.{Place, IsIn}
+use Rattle.memory_words.specs.Shapes.{FileCells, sizes}
+use Rattle.memory_words.specs.Readings.{Texts}
+use Rattle.memory_words.specs.Seen.{InSetting}
 use Rattle.memory_words.specs.Words.{Others}
 use Rattle.memory_words.specs.Typed.{OtherFits}
 use Rattle.memory_words.specs.Others.{OthersRun}
-use Rattle.memory_goals.specs.Functions.{function_word}
-use Rattle.memory_goals.specs.Starting.{origin_of}
-use Rattle.memory_goals.specs.Words.{Written, shape_in, start_in, bases_in}
-use Rattle.memory_goodness.specs.Laws.{OthersAreGood, OthersStay}
-use Rattle.memory_functions.specs.Functions.{FunctionFits}
-use Rattle.memory_starts.specs.Fitting.{StartFits}
+use Rattle.memory_functions.specs.GoalFunctions.{function_word}
+use Rattle.memory_functions.specs.Starting.{origin_of}
+use Rattle.memory_functions.specs.Words.{Written, shape_in, start_in, bases_in}
+use Rattle.memory_functions.specs.GoodLaws.{OthersAreGood, OthersStay}
+use Rattle.memory_functions.specs.FunctionFunctions.{FunctionFits}
+use Rattle.memory_functions.specs.Fitting.{StartFits}
 
 module _ (setting : Setting) (q : Program Steps) (cells : FileCells) (texts : Texts) (others : Others) (own : ℕ) (f : Function Steps) (g : Written) where
   abbrev pub word_with : Step

@@ -21,10 +21,10 @@ use Rattle.value_terms.specs.Typed.{operand_kind, AreTyped}
 use Rattle.program_steps.specs.Temporaries.{Temporaries, some_use, goal_uses}
 use Rattle.typed_runs.specs.Fitting as typed
 use Rattle.typed_normal.specs.Typed.{all_temporaries, core_scope, IsReceived, none_received, temporary_gets, place_gets, variable_gets}
-use Rattle.memory_readings.specs.Shapes.{FileCells, Shape, kind_of, is_pointer_cell}
-use Rattle.memory_readings.specs.Readings.{InScope, reading}
+use Rattle.memory_words.specs.Shapes.{FileCells, Shape, kind_of, is_pointer_cell}
+use Rattle.memory_words.specs.Readings.{InScope, reading}
 use Rattle.memory_words.specs.Typed.{way_checks}
-use Rattle.memory_calls.specs.Fits.{IfMeasured, count_of, Receives, by_nothing, by_temporary, by_local, by_global, by_cell, by_variable, ResultGoes, none_nowhere, none_to, goes_to}
+use Rattle.memory_calls.specs.CallFits.{IfMeasured, count_of, Receives, by_nothing, by_temporary, by_local, by_global, by_cell, by_variable, ResultGoes, none_nowhere, none_to, goes_to}
 use Rattle.memory_values.proofs.Closing.{values_are_closed}
 use Rattle.program_cells.specs.Parts.{AreKnown}
 use Rattle.program_cells.specs.Programs.{is_plain_root, place_parts, values_parts, written_parts, goal_parts, given_parts, variables_parts}

@@ -18,13 +18,13 @@ use Rattle.program_steps.specs.Temporaries.{Temporaries, no_temporaries, uses, s
 use Rattle.typed_runs.specs.Fitting as typed
 use Rattle.typed_normal.specs.Typed.{CoreIsTyped, CoresAreTyped}
 use Rattle.typed_normal.specs.Order.{KeepsOrder, KeepOrder}
-use Rattle.memory_readings.specs.Shapes.{FileCells, Shape}
-use Rattle.memory_readings.specs.Readings.{Texts, body_reading, entry_reading}
-use Rattle.memory_readings.specs.Seen.{MeasureFits}
+use Rattle.memory_words.specs.Shapes.{FileCells, Shape}
+use Rattle.memory_words.specs.Readings.{Texts, body_reading, entry_reading}
+use Rattle.memory_words.specs.Seen.{MeasureFits}
 use Rattle.memory_words.specs.Points.{Out, Force, of_function, of_loop, Point, deeper_out, later_force, remembered, in_block, uses_of}
 use Rattle.memory_words.specs.Words.{has_home, in_scope_of, entered_loop, inside_loop, at_loop, in_pass}
 use Rattle.memory_words.specs.Typed.{AllOf, OtherFits, WordFits, AllFit}
-use Rattle.memory_loops.specs.Fits.{at_levels, has_level, SetRegions, ClauseFits, ForceFits}
+use Rattle.memory_calls.specs.LoopFits.{at_levels, has_level, SetRegions, ClauseFits, ForceFits}
 use Rattle.typed_annotations.specs.Behaviors.{OwnContractFits, LoopAnnotationsFit}
 use Rattle.program_cells.specs.Parts.{AreKnown}
 use Rattle.program_cells.specs.Trees.{Declared}

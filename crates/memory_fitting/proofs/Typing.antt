@@ -21,9 +21,9 @@ use Rattle.value_terms.specs.Readings.{plain_global}
 use Rattle.value_terms.specs.Typed.{Scope, kind_given, VariableIs, HasBlock, ObjectIsTyped, CellIsTyped, ReadIsTyped, StartIsTyped, OpIsTyped, IsTyped, AreTyped}
 use Rattle.program_steps.specs.Temporaries.{Temporaries, uses, some_use}
 use Rattle.typed_normal.specs.Typed.{core_scope}
-use Rattle.memory_readings.specs.Shapes.{FileCells, Shape}
-use Rattle.memory_readings.specs.Readings.{InScope}
-use Rattle.memory_readings.specs.Seen.{temporary_kind, scope_at}
+use Rattle.memory_words.specs.Shapes.{FileCells, Shape}
+use Rattle.memory_words.specs.Readings.{InScope}
+use Rattle.memory_words.specs.Seen.{temporary_kind, scope_at}
 use Rattle.program_cells.specs.Parts.{Part, blocks, of_kind, is_part_of, type_parts, AreKnown}
 use Rattle.program_cells.specs.Programs.{is_plain_root, place_parts, op_parts, value_parts, values_parts}
 use Rattle.temporary_kinds.specs.Kinds.{or_else, value_kind, values_kind}

@@ -17,9 +17,9 @@ use Rattle.value_terms.specs.Typed.{AreTyped}
 use Rattle.program_steps.specs.Temporaries.{Temporaries, uses, some_use}
 use Rattle.typed_runs.specs.Fitting as typed
 use Rattle.typed_normal.specs.Typed.{all_temporaries, core_scope, IsOfKind, IsStored}
-use Rattle.memory_readings.specs.Shapes.{FileCells, Shape}
-use Rattle.memory_readings.specs.Readings.{InScope, reading}
-use Rattle.memory_readings.specs.Seen.{scope_at, is_closed_term, ValueFits}
+use Rattle.memory_words.specs.Shapes.{FileCells, Shape}
+use Rattle.memory_words.specs.Readings.{InScope, reading}
+use Rattle.memory_words.specs.Seen.{scope_at, is_closed_term, ValueFits}
 use Rattle.memory_words.specs.Typed.{ValuesFit, LeadsTo, to_local, to_global, to_cell, way_checks, StoreFits}
 use Rattle.memory_words.specs.Words.{rest_of}
 use Rattle.memory_values.specs.Laws.{AllClosed}

@@ -9,8 +9,8 @@ use Rattle.c_runs.specs.Program.{Variable, Facts}
 use Rattle.typed_memories.proofs.CellKinds.{same_kind}
 use Rattle.goal_segments.specs.Told.{with_name}
 use Rattle.typed_runs.specs.Fitting as typed
-use Rattle.memory_readings.specs.Shapes.{FileCells, Shape, kind_of}
-use Rattle.memory_readings.specs.Readings.{InScope}
+use Rattle.memory_words.specs.Shapes.{FileCells, Shape, kind_of}
+use Rattle.memory_words.specs.Readings.{InScope}
 use Rattle.memory_words.specs.Typed.{DeclaredFits, Declares, Takes}
 use Rattle.program_cells.specs.Parts.{blocks, of_kind, is_part_of, AreKnown}
 use Rattle.program_cells.specs.Programs.{if_pointer, variable_parts, variables_parts}

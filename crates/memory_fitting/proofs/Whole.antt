@@ -11,16 +11,16 @@ use Rattle.core_checks.specs.Adding.{steps_of, function_of, add_checks}
 use Rattle.program_steps.specs.Temporaries.{no_temporaries}
 use Rattle.typed_normal.specs.Typed.{FunctionIsTyped}
 use Rattle.typed_normal.specs.Order.{SetsFirst}
-use Rattle.memory_readings.specs.Shapes.{FileCells, Shape, kind_of, is_pointer_cell}
-use Rattle.memory_readings.specs.Readings.{Texts, entry_reading, return_reading}
-use Rattle.memory_readings.specs.Seen.{ClaimFits}
+use Rattle.memory_words.specs.Shapes.{FileCells, Shape, kind_of, is_pointer_cell}
+use Rattle.memory_words.specs.Readings.{Texts, entry_reading, return_reading}
+use Rattle.memory_words.specs.Seen.{ClaimFits}
 use Rattle.memory_words.specs.Points.{of_function}
 use Rattle.memory_words.specs.Typed.{AllOf}
-use Rattle.memory_loops.specs.Fits.{ClauseFits, ForceFits}
-use Rattle.memory_goals.specs.Words.{Written}
-use Rattle.memory_goals.specs.Functions.{is_param, body_point}
-use Rattle.memory_functions.specs.Functions.{ParamFits, BehaviorFits}
-use Rattle.memory_starts.specs.Fitting.{BehaviorStarts}
+use Rattle.memory_calls.specs.LoopFits.{ClauseFits, ForceFits}
+use Rattle.memory_functions.specs.Words.{Written}
+use Rattle.memory_functions.specs.GoalFunctions.{is_param, body_point}
+use Rattle.memory_functions.specs.FunctionFunctions.{ParamFits, BehaviorFits}
+use Rattle.memory_functions.specs.Fitting.{BehaviorStarts}
 use Rattle.typed_annotations.specs.Behaviors.{OwnBehaviorFits, OwnContractFits}
 use Rattle.program_cells.specs.Parts.{Part, AreKnown}
 use Rattle.program_cells.specs.Trees.{Declared}

@@ -10,15 +10,15 @@ use Rattle.c_runs.specs.Program.{Contract, Loop, Function, Facts}
 use Rattle.core_checks.specs.Tree as core
 use Rattle.core_checks.specs.Tree.{Goal, Steps}
 use Rattle.program_steps.specs.Temporaries.{Temporaries, no_temporaries, all_live}
-use Rattle.memory_readings.specs.Shapes.{FileCells, Shape, is_pointer_cell}
-use Rattle.memory_readings.specs.Readings.{Texts, body_reading}
-use Rattle.memory_readings.specs.Seen.{ClaimFits}
+use Rattle.memory_words.specs.Shapes.{FileCells, Shape, is_pointer_cell}
+use Rattle.memory_words.specs.Readings.{Texts, body_reading}
+use Rattle.memory_words.specs.Seen.{ClaimFits}
 use Rattle.memory_words.specs.Points.{Point, in_block, uses_of}
 use Rattle.memory_words.specs.Words.{has_home, in_scope_of, in_pass}
 use Rattle.memory_words.specs.Typed.{OtherFits}
-use Rattle.memory_loops.specs.Sets.{in_force, variable_changes}
-use Rattle.memory_loops.specs.Fits.{LoopFits}
-use Rattle.memory_calls.specs.Fits.{CalleeFits, CallFits}
+use Rattle.memory_calls.specs.LoopSets.{in_force, variable_changes}
+use Rattle.memory_calls.specs.LoopFits.{LoopFits}
+use Rattle.memory_calls.specs.CallFits.{CalleeFits, CallFits}
 use Rattle.typed_annotations.specs.Behaviors.{LoopAnnotationsFit}
 use Rattle.program_cells.specs.Parts.{AreKnown}
 use Rattle.program_cells.specs.Programs.{is_plain_root, given_parts}

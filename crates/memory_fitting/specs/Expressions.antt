@@ -7,9 +7,9 @@ use Rattle.value_terms.specs.Typed.{IsTyped, AreTyped}
 use Rattle.program_steps.specs.Temporaries.{Temporaries, uses, some_use}
 use Rattle.typed_runs.specs.Fitting as typed
 use Rattle.typed_normal.specs.Typed.{core_scope}
-use Rattle.memory_readings.specs.Shapes.{FileCells, Shape}
-use Rattle.memory_readings.specs.Readings.{InScope}
-use Rattle.memory_readings.specs.Seen.{scope_at}
+use Rattle.memory_words.specs.Shapes.{FileCells, Shape}
+use Rattle.memory_words.specs.Readings.{InScope}
+use Rattle.memory_words.specs.Seen.{scope_at}
 use Rattle.program_cells.specs.Parts.{AreKnown}
 use Rattle.program_cells.specs.Programs.{value_parts, values_parts}
 use Rattle.temporary_kinds.specs.Kinds.{value_kind, values_kind}

@@ -10,12 +10,12 @@ use Rattle.core_checks.specs.Adding.{steps_of, function_of, add_checks}
 use Rattle.program_steps.specs.Temporaries.{no_temporaries}
 use Rattle.typed_normal.specs.Typed.{FunctionIsTyped}
 use Rattle.typed_normal.specs.Order.{SetsFirst}
-use Rattle.memory_readings.specs.Shapes.{FileCells, Shape, is_pointer_cell}
-use Rattle.memory_readings.specs.Readings.{Texts}
-use Rattle.memory_goals.specs.Words.{Written, shape_in}
-use Rattle.memory_goals.specs.Functions.{is_param, body_point}
-use Rattle.memory_functions.specs.Functions.{FunctionFits}
-use Rattle.memory_starts.specs.Fitting.{StartFits}
+use Rattle.memory_words.specs.Shapes.{FileCells, Shape, is_pointer_cell}
+use Rattle.memory_words.specs.Readings.{Texts}
+use Rattle.memory_functions.specs.Words.{Written, shape_in}
+use Rattle.memory_functions.specs.GoalFunctions.{is_param, body_point}
+use Rattle.memory_functions.specs.FunctionFunctions.{FunctionFits}
+use Rattle.memory_functions.specs.Fitting.{StartFits}
 use Rattle.typed_annotations.specs.Behaviors.{OwnContractFits}
 use Rattle.program_cells.specs.Parts.{AreKnown}
 use Rattle.program_cells.specs.Trees.{Declared}

@@ -10,11 +10,11 @@ use Rattle.core_checks.specs.Adding.{steps_of, function_of}
 use Rattle.program_steps.specs.Temporaries.{Temporaries}
 use Rattle.typed_normal.specs.Typed.{CoresAreTyped}
 use Rattle.typed_normal.specs.Order.{KeepOrder}
-use Rattle.memory_readings.specs.Shapes.{FileCells, Shape}
-use Rattle.memory_readings.specs.Readings.{Texts}
+use Rattle.memory_words.specs.Shapes.{FileCells, Shape}
+use Rattle.memory_words.specs.Readings.{Texts}
 use Rattle.memory_words.specs.Points.{Point, uses_of}
 use Rattle.memory_words.specs.Typed.{AllFit}
-use Rattle.memory_loops.specs.Fits.{ForceFits}
+use Rattle.memory_calls.specs.LoopFits.{ForceFits}
 use Rattle.typed_annotations.specs.Behaviors.{OwnContractFits}
 use Rattle.program_cells.specs.Parts.{AreKnown}
 use Rattle.program_cells.specs.Trees.{Declared}

@@ -13,9 +13,9 @@ use Rattle.core_checks.specs.Adding.{place_checks}
 use Rattle.program_steps.specs.Temporaries.{Temporaries, uses, some_use}
 use Rattle.typed_runs.specs.Fitting as typed
 use Rattle.typed_normal.specs.Typed.{all_temporaries, core_scope, IsOfKind, IsStored}
-use Rattle.memory_readings.specs.Shapes.{FileCells, Shape}
-use Rattle.memory_readings.specs.Readings.{InScope}
-use Rattle.memory_readings.specs.Seen.{is_closed_term, ValueFits}
+use Rattle.memory_words.specs.Shapes.{FileCells, Shape}
+use Rattle.memory_words.specs.Readings.{InScope}
+use Rattle.memory_words.specs.Seen.{is_closed_term, ValueFits}
 use Rattle.memory_words.specs.Typed.{ValuesFit, LeadsTo, StoreFits, Declares, Takes}
 use Rattle.program_cells.specs.Parts.{AreKnown}
 use Rattle.program_cells.specs.Programs.{value_parts, values_parts, written_parts, variables_parts}

@@ -10,9 +10,9 @@ use Rattle.acsl_encode.specs.Encode.{formula_of, terms_of, all_of}
 use Rattle.acsl_encode.specs.Told.{those}
 use Rattle.qed_terms.specs.Tree.{Tree, at_most, trees_of, false_tree}
 use Rattle.c_runs.specs.Program.{Behavior, Contract, Facts}
-use Rattle.memory_slots.specs.Leaves.{is_closed, are_closed}
-use Rattle.memory_readings.specs.Shapes.{FileCells, Shape}
-use Rattle.memory_readings.specs.Readings.{Texts, Standpoint, body_reading}
+use Rattle.memory_words.specs.Leaves.{is_closed, are_closed}
+use Rattle.memory_words.specs.Shapes.{FileCells, Shape}
+use Rattle.memory_words.specs.Readings.{Texts, Standpoint, body_reading}
 use Rattle.memory_words.specs.Points.{Force, of_function, of_loop, Point}
 use Rattle.memory_words.specs.Regions.{RegionTree, region_in, regions_in, has_kind, of_kind, any_of, cell_in, cell_inside, region_within, region_inside, kinds_of, region_trees, all_region_trees, regions_inside}
 use Rattle.memory_words.specs.Sets.{all_clause_trees, as_one, as_one_unless, assumed_at, assumed_tree, cell_trees, claim_tree, clause_trees, entry_at, has_variable, is_inside, lacks, missing_all, missing_in, or_none, set_tree, since, under, variable_trees}

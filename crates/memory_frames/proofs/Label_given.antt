@@ -4,9 +4,9 @@ use Rattle.qed_terms.specs.Tree.{Tree, num}
 use Rattle.acsl_encode.specs.Readings.{Seen, nothing}
 use Rattle.walk_steps.specs.State.{at_or}
 use Rattle.memory_steps.specs.Forms.{Slots}
-use Rattle.memory_slots.specs.Leaves.{tables_in, terms_in}
-use Rattle.memory_slots.specs.Places.{result, result_offset}
-use Rattle.memory_readings.specs.Readings.{InScope, Standpoint, Texts, body_reading, entry_reading, return_reading}
+use Rattle.memory_words.specs.Leaves.{tables_in, terms_in}
+use Rattle.memory_words.specs.Places.{result, result_offset}
+use Rattle.memory_words.specs.Readings.{InScope, Standpoint, Texts, body_reading, entry_reading, return_reading}
 use Rattle.memory_annotations.specs.Bodies as bodies
 use Rattle.memory_annotations.specs.Seen.{common_with, in_body, in_contract, result_in, seen_over}
 use Rattle.memory_annotations.specs.View as settings

@@ -7,8 +7,8 @@ use Rattle.qed_terms.specs.declared.term.Term.{Term}
 use Rattle.walk_steps.specs.State.{at_or}
 use Rattle.memory_steps.specs.Forms.{Slots}
 use Rattle.memory_steps.specs.World.{count_of}
-use Rattle.memory_slots.specs.Leaves.{as_table, fill, tables_in, terms_in}
-use Rattle.memory_slots.proofs.Leaves.{written_table_leaf}
+use Rattle.memory_words.specs.Leaves.{as_table, fill, tables_in, terms_in}
+use Rattle.memory_words.proofs.Leaves.{written_table_leaf}
 use Rattle.memory_words.specs.Sets.{since}
 use Rattle.memory_worlds.specs.View.{view_slots}
 use Rattle.memory_worlds.specs.declared.worlds.Slots as code

@@ -7,7 +7,7 @@ use Rattle.acsl_trees.specs.declared.tree.Tree.{Tree as Code, out-Tree, roll-out
 use Rattle.acsl_trees.specs.Tree.{Tree, node, stop, more, trees_of, view_tree, view_trees}
 use Rattle.acsl_trees.proofs.Equations.{view_made}
 use Rattle.memory_words.specs.Sets.{is_region_of}
-use Rattle.memory_loops.specs.Sets.{region_variable}
+use Rattle.memory_calls.specs.LoopSets.{region_variable}
 use Rattle.memory_frames.specs.Named.{variable_in, only_in, region_in, is_same}
 
 view_whole : (t : Code) → view_tree t ≡ node (out-Tree t).head (trees_of (view_trees (out-Tree t).kids))

@@ -10,8 +10,8 @@ use Rattle.acsl_encode.specs.Encode.{formula_of, term_of, terms_of, all_of}
 use Rattle.qed_terms.specs.declared.head.Head.TheVariants as head
 use Rattle.qed_terms.specs.Tree.{Tree, node, trees_of, more}
 use Rattle.memory_steps.specs.Forms.{Slots}
-use Rattle.memory_slots.specs.Leaves.{fill, fill_all}
-use Rattle.memory_readings.specs.Readings.{Texts}
+use Rattle.memory_words.specs.Leaves.{fill, fill_all}
+use Rattle.memory_words.specs.Readings.{Texts}
 use Rattle.memory_words.specs.Regions.{RegionTree, region_in, regions_in}
 use Rattle.memory_words.specs.Sets.{as_one, as_one_unless, assumed_tree, claim_tree, under}
 use Rattle.memory_annotations.specs.Claims.{claimed}

@@ -5,7 +5,7 @@ use Rattle.acsl_encode.specs.Encode.{all_of}
 use Rattle.qed_terms.specs.declared.head.Head.TheVariants as head
 use Rattle.qed_terms.specs.Tree.{Tree, at_most, node, trees_of, more}
 use Rattle.memory_steps.specs.Forms.{Slots}
-use Rattle.memory_slots.specs.Leaves.{fill}
+use Rattle.memory_words.specs.Leaves.{fill}
 use Rattle.memory_words.specs.Regions.{RegionTree, all_region_trees, any_of, cell_in, cell_inside, has_kind, kinds_of, of_kind, region_inside, region_trees, region_within, regions_inside}
 use Rattle.memory_frames.specs.Regions.{fill_region, fill_regions}
 use Rattle.memory_frames.proofs.Telling.{map_both}

@@ -3,7 +3,7 @@ use Rattle.std.proofs.Common.{◌≡◌, ◌<◌, ◌≤◌, ℕ, ◌+◌, Bool,
 use Rattle.std.proofs.lemmas.List.{at_drop_more, at_drop_all}
 use Rattle.qed_terms.specs.Tree.{Tree}
 use Rattle.memory_steps.specs.Forms.{Slots}
-use Rattle.memory_slots.specs.Leaves.{fill, is_closed, closed, or_false}
+use Rattle.memory_words.specs.Leaves.{fill, is_closed, closed, or_false}
 
 pub closed_is : (t : Tree) → is_closed [] t ≡ true → closed t ≡ t
 closed_is t h = ap (λ b. or_false b t) h

@@ -13,8 +13,8 @@ use Rattle.memory_steps.specs.Step as steps
 use Rattle.memory_steps.specs.Step.{Step}
 use Rattle.memory_steps.specs.World.{World, world}
 use Rattle.memory_steps.specs.Walk.{Walked, asked, stays, followed}
-use Rattle.memory_slots.specs.Places.{Sizes}
-use Rattle.memory_slots.specs.Leaves.{fill, is_closed, form}
+use Rattle.memory_words.specs.Places.{Sizes}
+use Rattle.memory_words.specs.Leaves.{fill, is_closed, form}
 use Rattle.memory_words.specs.Words as words
 use Rattle.memory_walks.specs.Walks.{Held, Walks, walk_at, states, now_knows}
 use Rattle.memory_walks.proofs.Along.{Along, along_start, along_turn, along_same, along_end}

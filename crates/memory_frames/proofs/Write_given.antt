@@ -11,9 +11,9 @@ use Rattle.c_runs.specs.Program.{Contract, Facts}
 use Rattle.program_trees.specs.declared.contracts.Behavior.{Behavior}
 use Rattle.program_trees.specs.View.{view_behavior}
 use Rattle.memory_steps.specs.Forms.{Slots}
-use Rattle.memory_slots.specs.Leaves.{fill}
-use Rattle.memory_readings.specs.Shapes.{FileCells, Shape}
-use Rattle.memory_readings.specs.Readings.{Standpoint, Texts, body_reading}
+use Rattle.memory_words.specs.Leaves.{fill}
+use Rattle.memory_words.specs.Shapes.{FileCells, Shape}
+use Rattle.memory_words.specs.Readings.{Standpoint, Texts, body_reading}
 use Rattle.memory_words.specs.Points.{of_function, of_loop, Point}
 use Rattle.memory_words.specs.Regions.{RegionTree, cell_inside}
 use Rattle.memory_words.specs.Sets.{all_clause_trees, as_one, as_one_unless, assumed_at, cell_trees, clause_trees, entry_at, has_variable, is_inside, lacks, missing, missing_all, missing_in, set_tree, under, variable_trees}

@@ -6,7 +6,7 @@ use Rattle.qed_terms.specs.View.{formula_tree}
 use Rattle.walk_steps.specs.Forms.{Place}
 use Rattle.memory_steps.specs.Forms.{Slots, Form, Check}
 use Rattle.memory_steps.specs.Step.{Step, skip, seq, ask, know}
-use Rattle.memory_slots.specs.Leaves.{is_closed}
+use Rattle.memory_words.specs.Leaves.{is_closed}
 use Rattle.memory_walks.specs.View.{view_place}
 use Rattle.memory_frames.specs.declared.asks.Asked.{Asked}
 

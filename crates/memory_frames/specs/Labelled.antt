@@ -4,8 +4,8 @@ use Rattle.acsl_trees.specs.Tree as acsl
 use Rattle.acsl_encode.specs.Binders.{Spelled}
 use Rattle.acsl_encode.specs.Readings.{Called, Reading}
 use Rattle.memory_steps.specs.Forms.{Slots}
-use Rattle.memory_readings.specs.Readings.{Texts}
-use Rattle.memory_readings.specs.Shapes.{sizes}
+use Rattle.memory_words.specs.Readings.{Texts}
+use Rattle.memory_words.specs.Shapes.{sizes}
 use Rattle.memory_annotations.specs.Closed.{ReadingClosed}
 use Rattle.memory_annotations.specs.Filled.{filled}
 use Rattle.memory_annotations.specs.Seen.{common_with}

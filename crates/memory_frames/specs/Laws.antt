@@ -7,9 +7,9 @@ use Rattle.acsl_trees.specs.Tree as acsl
 use Rattle.acsl_encode.specs.Encode.{term_of}
 use Rattle.acsl_encode.specs.Readings.{Reading}
 use Rattle.c_runs.specs.Program.{Contract, Facts}
-use Rattle.memory_slots.specs.Leaves.{is_closed}
-use Rattle.memory_readings.specs.Shapes.{FileCells, Shape}
-use Rattle.memory_readings.specs.Readings.{InScope, Texts, Standpoint, body_reading, entry_reading, return_reading}
+use Rattle.memory_words.specs.Leaves.{is_closed}
+use Rattle.memory_words.specs.Shapes.{FileCells, Shape}
+use Rattle.memory_words.specs.Readings.{InScope, Texts, Standpoint, body_reading, entry_reading, return_reading}
 use Rattle.memory_words.specs.Points.{Point}
 use Rattle.memory_words.specs.Regions.{RegionTree, regions_in, cell_inside, regions_inside}
 use Rattle.memory_words.specs.Sets.{assumed_tree, cell_trees, claim_tree, since, under, variable_trees}

@@ -7,9 +7,9 @@ use Rattle.c_runs.specs.Program as program
 use Rattle.walk_steps.specs.Walk.{Goal}
 use Rattle.memory_steps.specs.State as state
 use Rattle.memory_steps.specs.Forms.{Slots}
-use Rattle.memory_readings.specs.Shapes as shapes
-use Rattle.memory_readings.specs.Shapes.{Shape}
-use Rattle.memory_readings.specs.Readings.{Standpoint}
+use Rattle.memory_words.specs.Shapes as shapes
+use Rattle.memory_words.specs.Shapes.{Shape}
+use Rattle.memory_words.specs.Readings.{Standpoint}
 use Rattle.memory_words.specs.Points as words
 use Rattle.memory_words.specs.Points.{Open, Out}
 use Rattle.memory_worlds.specs.View.{view_base}

@@ -2,8 +2,8 @@
 ghost use Rattle.std.specs.Prelude.{◌≡◌, List, map, true, OnOk};
 ghost use Rattle.memory_frames.specs.Asked.{AreClosed, view_asked, written_check};
 ghost use Rattle.memory_frames.specs.View.{Still};
-ghost use Rattle.memory_slots.specs.Leaves.{fill, form};
-ghost use Rattle.memory_slots.specs.Places.{Sizes};
+ghost use Rattle.memory_words.specs.Leaves.{fill, form};
+ghost use Rattle.memory_words.specs.Places.{Sizes};
 ghost use Rattle.memory_steps.specs.Forms as forms;
 ghost use Rattle.memory_steps.specs.State.{Base};
 ghost use Rattle.memory_steps.specs.Step as step;

@@ -3,7 +3,7 @@ ghost use Rattle.std.specs.Prelude.{◌≡◌, [], ◌∷◌, List, map, IfOk};
 ghost use Rattle.acsl_encode.specs.Readings.{Reading};
 ghost use Rattle.acsl_trees.specs.Tree as acsl;
 ghost use Rattle.memory_frames.specs.Labelled.{Labelled};
-ghost use Rattle.memory_slots.specs.Leaves.{fill};
+ghost use Rattle.memory_words.specs.Leaves.{fill};
 ghost use Rattle.memory_steps.specs.Forms.{Slots};
 ghost use Rattle.memory_words.specs.Sets as spec;
 ghost use Rattle.program_trees.specs.View.{view_behavior};

@@ -2,7 +2,7 @@
 ghost use Rattle.std.specs.Prelude.{◌≡◌};
 ghost use Rattle.acsl_trees.specs.Tree.{view_tree};
 ghost use Rattle.memory_annotations.specs.View.{called_in};
-ghost use Rattle.memory_readings.specs.Readings as readings;
+ghost use Rattle.memory_words.specs.Readings as readings;
 
 use acsl_trees::Tree;
 use core_trees::FunctionVariable;

@@ -1,8 +1,8 @@
 // The states of levels: the present one, and those that are remembered.
 ghost use Rattle.std.specs.Prelude.{◌≡◌, [], map, pos, IfOk};
 ghost use Rattle.memory_frames.specs.View.{ReadsAt, facts_in, shape_in};
-ghost use Rattle.memory_readings.specs.Shapes.{sizes};
-ghost use Rattle.memory_slots.specs.Leaves.{fill, tables_in, terms_in};
+ghost use Rattle.memory_words.specs.Shapes.{sizes};
+ghost use Rattle.memory_words.specs.Leaves.{fill, tables_in, terms_in};
 ghost use Rattle.memory_values.specs.View.{view_sizes};
 ghost use Rattle.memory_walks.specs.View.{view_state};
 ghost use Rattle.memory_walks.specs.Walks.{states};

@@ -3,7 +3,7 @@ ghost use Rattle.std.specs.Prelude.{◌≡◌};
 ghost use Rattle.std.specs.Option.{option_map};
 ghost use Rattle.acsl_trees.specs.Tree.{view_tree, view_trees};
 ghost use Rattle.memory_frames.specs.Named.{only_in, region_in, variable_in};
-ghost use Rattle.memory_loops.specs.Sets as loops;
+ghost use Rattle.memory_calls.specs.LoopSets as loops;
 ghost use Rattle.memory_words.specs.Sets as spec;
 
 use acsl_trees::{Head, Tree};

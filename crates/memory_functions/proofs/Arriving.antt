@@ -32,24 +32,24 @@ use Rattle.memory_steps.specs.Step.{Step, count as checks_in}
 use Rattle.memory_steps.specs.Run as seg
 use Rattle.memory_steps.specs.Run.{End, goes_on, IsOver, Seg}
 use Rattle.memory_steps.proofs.Readings.{seq_ways}
-use Rattle.memory_slots.specs.Places.{value, offset, flag, Sizes, held, number_at}
-use Rattle.memory_slots.proofs.Lists.{found_below}
-use Rattle.memory_readings.specs.Shapes.{FileCells, Shape, sizes, kind_of}
-use Rattle.memory_readings.specs.Readings.{Texts}
-use Rattle.memory_readings.specs.Standing.{LocalIs, TempIs, Frame, StandsFor}
-use Rattle.memory_readings.specs.Seen.{InSetting}
-use Rattle.memory_readings.proofs.Sorts.{number_is}
+use Rattle.memory_words.specs.Places.{value, offset, flag, Sizes, held, number_at}
+use Rattle.memory_words.proofs.Lists.{found_below}
+use Rattle.memory_words.specs.Shapes.{FileCells, Shape, sizes, kind_of}
+use Rattle.memory_words.specs.Readings.{Texts}
+use Rattle.memory_words.specs.Standing.{LocalIs, TempIs, Frame, StandsFor}
+use Rattle.memory_words.specs.Seen.{InSetting}
+use Rattle.memory_words.proofs.Sorts.{number_is}
 use Rattle.memory_words.specs.Words.{has_cell_of, home_kinds, has_home}
 use Rattle.memory_words.specs.Typed.{OtherFits}
-use Rattle.memory_puts.proofs.Storing.{content_leads}
-use Rattle.memory_scopes.specs.Scopes.{GoesTo}
-use Rattle.memory_scopes.proofs.Block.{home_kinds_of, has_home_of}
-use Rattle.memory_scopes.proofs.Carrying.{content_more}
-use Rattle.memory_scopes.proofs.Ending.{same_own}
-use Rattle.memory_goals.specs.Functions as goal
-use Rattle.memory_goals.specs.Functions.{is_param, numbers_from}
-use Rattle.memory_functions.specs.Functions.{FunctionFits, EntersAs, ArrivedAs}
-use Rattle.memory_functions.specs.Laws.{Arrives, ParametersArrive}
+use Rattle.memory_words.proofs.Storing.{content_leads}
+use Rattle.memory_statements.specs.Scopes.{GoesTo}
+use Rattle.memory_statements.proofs.Block.{home_kinds_of, has_home_of}
+use Rattle.memory_statements.proofs.Carrying.{content_more}
+use Rattle.memory_statements.proofs.Ending.{same_own}
+use Rattle.memory_functions.specs.GoalFunctions as goal
+use Rattle.memory_functions.specs.GoalFunctions.{is_param, numbers_from}
+use Rattle.memory_functions.specs.FunctionFunctions.{FunctionFits, EntersAs, ArrivedAs}
+use Rattle.memory_functions.specs.FunctionLaws.{Arrives, ParametersArrive}
 use Rattle.memory_functions.proofs.Parameter as parameter
 
 -- ---- tables

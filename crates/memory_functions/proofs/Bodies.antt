@@ -28,24 +28,24 @@ use Rattle.memory_steps.specs.Step as step
 use Rattle.memory_steps.specs.Run.{End, goes_on, leaves, fails, IsOver, Seg}
 use Rattle.memory_steps.specs.Run as seg
 use Rattle.memory_steps.proofs.Readings.{seq_ways, last_asks}
-use Rattle.memory_slots.specs.Places.{result, result_offset, number_in, number_at}
-use Rattle.memory_readings.specs.Shapes.{FileCells, Shape, sizes}
-use Rattle.memory_readings.specs.Readings.{Texts}
-use Rattle.memory_readings.specs.Standing.{IsHeldAs, Frame, StandsFor}
-use Rattle.memory_readings.specs.Seen.{InSetting}
+use Rattle.memory_words.specs.Places.{result, result_offset, number_in, number_at}
+use Rattle.memory_words.specs.Shapes.{FileCells, Shape, sizes}
+use Rattle.memory_words.specs.Readings.{Texts}
+use Rattle.memory_words.specs.Standing.{IsHeldAs, Frame, StandsFor}
+use Rattle.memory_words.specs.Seen.{InSetting}
 use Rattle.memory_words.specs.Points.{Point}
 use Rattle.memory_words.specs.Words as word
 use Rattle.memory_words.specs.Words.{Others, has_home}
 use Rattle.memory_words.specs.Typed.{OtherFits}
 use Rattle.memory_words.specs.Placed.{FailsAs, Openings, ReturnsIt, Ends, BothWays}
 use Rattle.memory_words.specs.Others.{OthersRun}
-use Rattle.memory_puts.proofs.Listing.{comes, fails_first, fails_second}
-use Rattle.memory_scopes.specs.Scopes.{GoesTo, EndedAs}
-use Rattle.memory_scopes.proofs.Ending.{scopes_end}
-use Rattle.memory_statements.proofs.Statements.{statements_run}
-use Rattle.memory_goals.specs.Functions.{numbers_from, param_scope, body_point, ending}
-use Rattle.memory_goals.specs.Words.{Written, shape_in}
-use Rattle.memory_functions.specs.Functions.{FunctionFits, EntersAs, ArrivedAs, ReturnsAs, body_frame}
+use Rattle.memory_words.proofs.PutListing.{comes, fails_first, fails_second}
+use Rattle.memory_statements.specs.Scopes.{GoesTo, EndedAs}
+use Rattle.memory_statements.proofs.Ending.{scopes_end}
+use Rattle.memory_statements.proofs.StatementStatements.{statements_run}
+use Rattle.memory_functions.specs.GoalFunctions.{numbers_from, param_scope, body_point, ending}
+use Rattle.memory_functions.specs.Words.{Written, shape_in}
+use Rattle.memory_functions.specs.FunctionFunctions.{FunctionFits, EntersAs, ArrivedAs, ReturnsAs, body_frame}
 use Rattle.memory_functions.proofs.Placing.{opened_of, openings_of, open_so, placed}
 use Rattle.memory_functions.proofs.Returning.{back_as}
 

@@ -18,21 +18,21 @@ use Rattle.c_runs.specs.Program.{Behavior, Contract, Facts}
 use Rattle.c_runs.specs.States.{Memory, Granted}
 use Rattle.c_runs.specs.Claims.{holds, is_assumed, at_entry, value_of, regions_of, granted_by, granted_in, lets_cell}
 use Rattle.memory_steps.specs.State.{State}
-use Rattle.memory_slots.specs.Leaves.{is_closed, closed, leaves_of}
-use Rattle.memory_readings.specs.Shapes.{FileCells, Shape}
-use Rattle.memory_readings.specs.Readings.{Texts, entry_reading}
-use Rattle.memory_readings.specs.Seen.{InSetting, CellsFit, EntrySeen}
-use Rattle.memory_readings.proofs.Worlds.{annotations_read}
+use Rattle.memory_words.specs.Leaves.{is_closed, closed, leaves_of}
+use Rattle.memory_words.specs.Shapes.{FileCells, Shape}
+use Rattle.memory_words.specs.Readings.{Texts, entry_reading}
+use Rattle.memory_words.specs.Seen.{InSetting, CellsFit, EntrySeen}
+use Rattle.memory_words.proofs.Worlds.{annotations_read}
 use Rattle.memory_words.specs.Regions.{RegionTree, regions_in, region_in, of_kind, has_kind, cell_in, cell_inside}
 use Rattle.memory_words.specs.Sets.{since, as_one, clause_trees, all_clause_trees, set_tree, under}
 use Rattle.memory_words.specs.Typed.{AllOf, RegionFits, names, has_cells, SetFits}
 use Rattle.memory_words.specs.Placed.{all_told}
-use Rattle.memory_puts.proofs.Valued.{closed_told}
-use Rattle.memory_stores.specs.Regions as sets
-use Rattle.memory_stores.specs.Regions.{AreRegions, HasCells, set_of}
-use Rattle.memory_stores.proofs.Sets.{cells_inside}
-use Rattle.memory_goals.specs.Functions.{is_param, behavior_tree}
-use Rattle.memory_functions.specs.Functions.{BehaviorFits}
+use Rattle.memory_words.proofs.Valued.{closed_told}
+use Rattle.memory_statements.specs.Regions as sets
+use Rattle.memory_statements.specs.Regions.{AreRegions, HasCells, set_of}
+use Rattle.memory_statements.proofs.StoreSets.{cells_inside}
+use Rattle.memory_functions.specs.GoalFunctions.{is_param, behavior_tree}
+use Rattle.memory_functions.specs.FunctionFunctions.{BehaviorFits}
 use Rattle.memory_functions.proofs.Tests.{any_closed}
 use Rattle.memory_functions.proofs.Contracts.{behavior_tells}
 use Rattle.memory_functions.proofs.Granting.{and_so, all_append, one_so, stands_at, terms_no_region, variable_hidden, cells_stand}

@@ -18,18 +18,18 @@ use Rattle.typed_memories.proofs.Tests.{on_test}
 use Rattle.program_steps.specs.Stops.{broken_place, IsStop}
 use Rattle.memory_steps.specs.State.{State}
 use Rattle.memory_steps.specs.Forms.{Check}
-use Rattle.memory_slots.specs.Leaves.{is_closed, closed, leaves_of}
-use Rattle.memory_readings.specs.Shapes.{FileCells, Shape, sizes}
-use Rattle.memory_readings.specs.Readings.{Texts, entry_reading, return_reading}
-use Rattle.memory_readings.specs.Seen.{InSetting, ClaimFits, EntrySeen, ReturnSeen}
-use Rattle.memory_readings.proofs.Worlds.{annotations_read}
+use Rattle.memory_words.specs.Leaves.{is_closed, closed, leaves_of}
+use Rattle.memory_words.specs.Shapes.{FileCells, Shape, sizes}
+use Rattle.memory_words.specs.Readings.{Texts, entry_reading, return_reading}
+use Rattle.memory_words.specs.Seen.{InSetting, ClaimFits, EntrySeen, ReturnSeen}
+use Rattle.memory_words.proofs.Worlds.{annotations_read}
 use Rattle.memory_words.specs.Regions.{any_of}
 use Rattle.memory_words.specs.Sets.{or_none, claim_tree, under}
 use Rattle.memory_words.specs.Words.{check}
 use Rattle.memory_words.specs.Typed.{AllOf}
-use Rattle.memory_puts.proofs.Valued.{closed_told}
-use Rattle.memory_goals.specs.Functions.{is_param, no_two, behavior_tree, named_tree, named_trees, together_check, ensure_check, ensure_checks, all_ensured}
-use Rattle.memory_functions.specs.Functions.{BehaviorFits}
+use Rattle.memory_words.proofs.Valued.{closed_told}
+use Rattle.memory_functions.specs.GoalFunctions.{is_param, no_two, behavior_tree, named_tree, named_trees, together_check, ensure_check, ensure_checks, all_ensured}
+use Rattle.memory_functions.specs.FunctionFunctions.{BehaviorFits}
 use Rattle.memory_functions.proofs.Tests.{all_closed, any_closed, no_two_closed, all_so, any_so, none_twice, Comes, none_come, more_come, one_comes}
 
 abbrev no_stop : Option Stop

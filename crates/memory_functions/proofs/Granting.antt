@@ -30,19 +30,19 @@ use Rattle.c_runs.specs.Claims.{holds, is_assumed, at_entry, value_of, regions_o
 use Rattle.typed_memories.proofs.Tests.{on_test, same_number, number_same}
 use Rattle.c_runs.proofs.Numbers.{equal_is}
 use Rattle.memory_steps.specs.State.{State}
-use Rattle.memory_slots.specs.Places.{value as value_place, offset}
-use Rattle.memory_slots.specs.Leaves.{is_closed, closed, leaves_of}
-use Rattle.memory_readings.specs.Shapes.{FileCells, Shape, kind_of}
-use Rattle.memory_readings.specs.Readings.{InScope, Texts, Standpoint, leaf, slot_of_kind, global_slot, param_slot, contract_slot, common_of, entry_reading}
-use Rattle.memory_readings.specs.Seen.{InSetting, EntrySeen}
-use Rattle.memory_readings.proofs.Worlds.{annotations_read}
+use Rattle.memory_words.specs.Places.{value as value_place, offset}
+use Rattle.memory_words.specs.Leaves.{is_closed, closed, leaves_of}
+use Rattle.memory_words.specs.Shapes.{FileCells, Shape, kind_of}
+use Rattle.memory_words.specs.Readings.{InScope, Texts, Standpoint, leaf, slot_of_kind, global_slot, param_slot, contract_slot, common_of, entry_reading}
+use Rattle.memory_words.specs.Seen.{InSetting, EntrySeen}
+use Rattle.memory_words.proofs.Worlds.{annotations_read}
 use Rattle.memory_words.specs.Sets.{lacks, is_region_of, same_variable, has_variable, as_one, as_one_unless, missing_in, missing_all, missing, under}
 use Rattle.memory_words.specs.Typed.{AllOf, is_scalar, is_plain_variable, RegionFits, names, has_cells, SetFits}
 use Rattle.memory_words.specs.Placed.{all_told}
-use Rattle.memory_puts.proofs.Valued.{closed_told}
-use Rattle.memory_puts.proofs.Homes.{hidden_number, same_hidden}
-use Rattle.memory_goals.specs.Functions.{is_param, none_in, behavior_tree}
-use Rattle.memory_functions.specs.Functions.{BehaviorFits}
+use Rattle.memory_words.proofs.Valued.{closed_told}
+use Rattle.memory_words.proofs.Homes.{hidden_number, same_hidden}
+use Rattle.memory_functions.specs.GoalFunctions.{is_param, none_in, behavior_tree}
+use Rattle.memory_functions.specs.FunctionFunctions.{BehaviorFits}
 use Rattle.memory_functions.proofs.Tests.{all_closed, all_so}
 use Rattle.memory_functions.proofs.Contracts.{behavior_tells}
 

@@ -9,11 +9,11 @@ use Rattle.c_runs.specs.Program.{Variable}
 use Rattle.walk_steps.specs.State.{at_or, put, restore}
 use Rattle.memory_steps.specs.State.{State, Datum, nothing, with_slots}
 use Rattle.memory_steps.specs.Run.{put_back}
-use Rattle.memory_slots.specs.Places.{Place, value, offset, flag, Sizes, IsIn, slot, held}
-use Rattle.memory_slots.proofs.Lists.{put_elsewhere}
-use Rattle.memory_slots.proofs.Listing.{slots_of_places}
+use Rattle.memory_words.specs.Places.{Place, value, offset, flag, Sizes, IsIn, slot, held}
+use Rattle.memory_words.proofs.Lists.{put_elsewhere}
+use Rattle.memory_words.proofs.SlotListing.{slots_of_places}
 use Rattle.memory_words.specs.Words.{has_cell_of, own_kind, home_kinds, has_home, slots_of}
-use Rattle.memory_goals.specs.Functions.{numbers_from}
+use Rattle.memory_functions.specs.GoalFunctions.{numbers_from}
 
 or_left : (a b : Bool) → a ≡ true → (a || b) ≡ true
 or_left a b e = ap (λ t. t || b) e

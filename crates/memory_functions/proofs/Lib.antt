@@ -1,3 +1,8 @@
+pub mod Worked
+pub mod Good
+pub mod Staying
+pub mod Calling
+pub mod Receiving
 pub mod Parameter
 pub mod Arriving
 pub mod Tests
@@ -9,3 +14,9 @@ pub mod Placing
 pub mod Returning
 pub mod Bodies
 pub mod Wholes
+pub mod Froms
+pub mod Told
+pub mod Requiring
+pub mod Arguments
+pub mod Starting
+pub mod Entering

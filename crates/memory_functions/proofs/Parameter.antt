@@ -37,30 +37,30 @@ use Rattle.memory_steps.specs.Step.{Step, count as checks_in}
 use Rattle.memory_steps.specs.Run as seg
 use Rattle.memory_steps.specs.Run.{End, goes_on, IsOver, Seg}
 use Rattle.memory_steps.proofs.Readings.{seq_ways}
-use Rattle.memory_slots.specs.Places.{Place, value, offset, flag, answer, temporary, temporary_offset, Sizes, IsIn, slots_in, held, with_held, number_in, number_at}
-use Rattle.memory_slots.proofs.Holding.{puts_are_held}
-use Rattle.memory_slots.proofs.Lists.{found_below}
-use Rattle.memory_slots.proofs.Leaves.{leaf_closed}
-use Rattle.memory_readings.specs.Shapes.{FileCells, Shape, sizes, kind_of}
-use Rattle.memory_readings.specs.Readings.{leaf, term_of_kind}
-use Rattle.memory_readings.specs.Standing.{IsHeldAs, Frame, StandsFor}
-use Rattle.memory_readings.specs.Seen.{InSetting}
-use Rattle.memory_readings.proofs.Sorts.{held_number}
+use Rattle.memory_words.specs.Places.{Place, value, offset, flag, answer, temporary, temporary_offset, Sizes, IsIn, slots_in, held, with_held, number_in, number_at}
+use Rattle.memory_words.proofs.Holding.{puts_are_held}
+use Rattle.memory_words.proofs.Lists.{found_below}
+use Rattle.memory_words.proofs.Leaves.{leaf_closed}
+use Rattle.memory_words.specs.Shapes.{FileCells, Shape, sizes, kind_of}
+use Rattle.memory_words.specs.Readings.{leaf, term_of_kind}
+use Rattle.memory_words.specs.Standing.{IsHeldAs, Frame, StandsFor}
+use Rattle.memory_words.specs.Seen.{InSetting}
+use Rattle.memory_words.proofs.Sorts.{held_number}
 use Rattle.memory_words.specs.Words.{has_cell_of, block_opened, store_cell}
-use Rattle.memory_renewals.specs.Renewed.{ListsRead, is_renewed}
-use Rattle.memory_renewals.specs.Laws.{ComesTo, MakesBlock, file_kinds, block_in}
-use Rattle.memory_renewals.proofs.Places.{not_renewed}
-use Rattle.memory_renewals.proofs.Made.{made_is_renewed}
-use Rattle.memory_puts.specs.Puts.{first_value, Gives, Reaches}
-use Rattle.memory_stores.specs.Stored.{LeadsAt}
-use Rattle.memory_stores.proofs.Storing.{cells_are_stored}
-use Rattle.memory_stores.proofs.Telling.{leaf_told}
-use Rattle.memory_stores.proofs.Homes.{home_cell}
-use Rattle.memory_stores.proofs.Ways.{at_behind}
-use Rattle.memory_scopes.proofs.Carrying.{carried, content_more}
-use Rattle.memory_scopes.proofs.Framing.{layout_still, own_layout}
-use Rattle.memory_scopes.proofs.Ending.{same_own}
-use Rattle.memory_functions.specs.Functions.{ParamFits}
+use Rattle.memory_statements.specs.Renewed.{ListsRead, is_renewed}
+use Rattle.memory_statements.specs.RenewalLaws.{ComesTo, MakesBlock, file_kinds, block_in}
+use Rattle.memory_statements.proofs.Places.{not_renewed}
+use Rattle.memory_statements.proofs.Made.{made_is_renewed}
+use Rattle.memory_words.specs.Puts.{first_value, Gives, Reaches}
+use Rattle.memory_statements.specs.Stored.{LeadsAt}
+use Rattle.memory_statements.proofs.Storing.{cells_are_stored}
+use Rattle.memory_statements.proofs.Telling.{leaf_told}
+use Rattle.memory_statements.proofs.Homes.{home_cell}
+use Rattle.memory_statements.proofs.Ways.{at_behind}
+use Rattle.memory_statements.proofs.Carrying.{carried, content_more}
+use Rattle.memory_statements.proofs.Framing.{layout_still, own_layout}
+use Rattle.memory_statements.proofs.Ending.{same_own}
+use Rattle.memory_functions.specs.FunctionFunctions.{ParamFits}
 
 goes_parts : {a b : State} → goes_on a ≡ goes_on b → a ≡ b
 goes_parts e = cc

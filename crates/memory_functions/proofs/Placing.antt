@@ -19,20 +19,20 @@ use Rattle.typed_memories.proofs.Tests.{on_test}
 use Rattle.memory_changes.specs.Changes.{LacksSince}
 use Rattle.memory_changes.proofs.Alone.{newer_blocks_lack_kinds}
 use Rattle.memory_steps.specs.State.{State}
-use Rattle.memory_slots.proofs.Leaves.{leaves_are_held}
-use Rattle.memory_slots.specs.Leaves.{leaves_of}
-use Rattle.memory_readings.specs.Shapes.{FileCells, Shape}
-use Rattle.memory_readings.specs.Readings.{Texts}
-use Rattle.memory_readings.specs.Standing.{Frame}
-use Rattle.memory_readings.specs.Seen.{InSetting, SeenByContract, EntrySeen}
-use Rattle.memory_readings.proofs.Contracts.{contracts_see}
+use Rattle.memory_words.proofs.Leaves.{leaves_are_held}
+use Rattle.memory_words.specs.Leaves.{leaves_of}
+use Rattle.memory_words.specs.Shapes.{FileCells, Shape}
+use Rattle.memory_words.specs.Readings.{Texts}
+use Rattle.memory_words.specs.Standing.{Frame}
+use Rattle.memory_words.specs.Seen.{InSetting, SeenByContract, EntrySeen}
+use Rattle.memory_words.proofs.Contracts.{contracts_see}
 use Rattle.memory_words.specs.Sets.{since}
 use Rattle.memory_words.specs.Typed.{OtherFits}
 use Rattle.memory_words.specs.Words.{own_kind, home_kinds, has_home}
 use Rattle.memory_words.specs.Placed.{Opening, Openings, AreOpen, Placed, Carried}
-use Rattle.memory_scopes.proofs.Ending.{same_own}
-use Rattle.memory_goals.specs.Functions.{is_param, none_in, numbers_from, param_scopes, body_point}
-use Rattle.memory_functions.specs.Functions.{FunctionFits, EntersAs, ArrivedAs, body_frame}
+use Rattle.memory_statements.proofs.Ending.{same_own}
+use Rattle.memory_functions.specs.GoalFunctions.{is_param, none_in, numbers_from, param_scopes, body_point}
+use Rattle.memory_functions.specs.FunctionFunctions.{FunctionFits, EntersAs, ArrivedAs, body_frame}
 use Rattle.memory_functions.proofs.Granting.{and_so, all_append, writes_so, locals_so}
 use Rattle.memory_functions.proofs.Cells.{cells_so}
 use Rattle.memory_functions.proofs.Homes.{home_own, not_own, no_home}

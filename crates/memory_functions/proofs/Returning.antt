@@ -24,16 +24,16 @@ use Rattle.c_kinds.proofs.Converting.{test_le, le_test}
 use Rattle.program_steps.specs.Temporaries.{Temporaries}
 use Rattle.memory_steps.specs.State.{State}
 use Rattle.memory_steps.specs.Run.{put_back}
-use Rattle.memory_slots.specs.Places.{Place, value, offset, result, result_offset, numbers, blocks, offsets, IsIn, held, number_in, number_at}
-use Rattle.memory_slots.proofs.Lists.{found_below}
-use Rattle.memory_readings.specs.Shapes.{FileCells, Shape, sizes, kind_of}
-use Rattle.memory_readings.specs.Standing.{IsHeldAs, NumbersAre, PointersAre, FileStands, Frame, StandsFor}
-use Rattle.memory_readings.proofs.Contents.{content_is}
+use Rattle.memory_words.specs.Places.{Place, value, offset, result, result_offset, numbers, blocks, offsets, IsIn, held, number_in, number_at}
+use Rattle.memory_words.proofs.Lists.{found_below}
+use Rattle.memory_words.specs.Shapes.{FileCells, Shape, sizes, kind_of}
+use Rattle.memory_words.specs.Standing.{IsHeldAs, NumbersAre, PointersAre, FileStands, Frame, StandsFor}
+use Rattle.memory_words.proofs.Contents.{content_is}
 use Rattle.memory_words.specs.Words.{has_home, slots_of}
 use Rattle.memory_words.specs.Placed.{frame_behind, ended_all}
-use Rattle.memory_scopes.proofs.Ending.{nothing_ends}
-use Rattle.memory_goals.specs.Functions.{numbers_from}
-use Rattle.memory_functions.specs.Functions.{ArrivedAs, ReturnsAs, body_frame}
+use Rattle.memory_statements.proofs.Ending.{nothing_ends}
+use Rattle.memory_functions.specs.GoalFunctions.{numbers_from}
+use Rattle.memory_functions.specs.FunctionFunctions.{ArrivedAs, ReturnsAs, body_frame}
 use Rattle.memory_functions.proofs.Homes.{IsElse, AllBelow, back_elsewhere}
 use Rattle.memory_functions.proofs.Placing.{opened_of}
 

@@ -16,11 +16,11 @@ use Rattle.memory_steps.specs.Step as step
 use Rattle.memory_steps.specs.Run.{End, goes_on, fails, Seg}
 use Rattle.memory_steps.specs.Run as seg
 use Rattle.memory_steps.proofs.Readings.{ask_ways}
-use Rattle.memory_slots.specs.Leaves.{is_closed, are_closed}
+use Rattle.memory_words.specs.Leaves.{is_closed, are_closed}
 use Rattle.program_steps.specs.Stops.{IsStop}
 use Rattle.memory_words.specs.Regions.{any_of}
 use Rattle.memory_words.specs.Placed.{IsPlace, FailsAs}
-use Rattle.memory_goals.specs.Functions.{not_both, no_two}
+use Rattle.memory_functions.specs.GoalFunctions.{not_both, no_two}
 
 -- ---- several formulas as one
 

@@ -28,25 +28,25 @@ use Rattle.memory_steps.specs.Step as step
 use Rattle.memory_steps.specs.Run.{End, goes_on, leaves, fails, out, on_state, put_back, Seg}
 use Rattle.memory_steps.specs.Run as seg
 use Rattle.memory_steps.proofs.Readings.{seq_ways, block_way, scope_way, remember_way}
-use Rattle.memory_readings.specs.Shapes.{FileCells, Shape, sizes}
-use Rattle.memory_readings.specs.Readings.{Texts}
-use Rattle.memory_readings.specs.Standing.{IsHeldAs, FileStands}
-use Rattle.memory_readings.specs.Seen.{InSetting, SeenByContract, EntrySeen, ResultIs, ReturnSeen}
-use Rattle.memory_readings.proofs.Contents.{content_is}
-use Rattle.memory_readings.proofs.Contracts.{contracts_see}
-use Rattle.memory_slots.specs.Places.{result, result_offset, number_at}
+use Rattle.memory_words.specs.Shapes.{FileCells, Shape, sizes}
+use Rattle.memory_words.specs.Readings.{Texts}
+use Rattle.memory_words.specs.Standing.{IsHeldAs, FileStands}
+use Rattle.memory_words.specs.Seen.{InSetting, SeenByContract, EntrySeen, ResultIs, ReturnSeen}
+use Rattle.memory_words.proofs.Contents.{content_is}
+use Rattle.memory_words.proofs.Contracts.{contracts_see}
+use Rattle.memory_words.specs.Places.{result, result_offset, number_at}
 use Rattle.program_steps.specs.Temporaries.{no_temporaries}
 use Rattle.memory_words.specs.Words as word
 use Rattle.memory_words.specs.Words.{Others, has_home, slots_of}
 use Rattle.memory_words.specs.Typed.{OtherFits}
 use Rattle.memory_words.specs.Placed.{FailsAs}
 use Rattle.memory_words.specs.Others.{OthersRun}
-use Rattle.memory_puts.proofs.Listing.{comes, fails_first, fails_second}
-use Rattle.memory_scopes.proofs.Block.{has_home_of}
-use Rattle.memory_goals.specs.Functions.{is_param, numbers_from, together_check, ensure_checks, all_ensured, param_made, params_made, body_point, ending, in_params, function_word}
-use Rattle.memory_goals.specs.Words.{Written, shape_in}
-use Rattle.memory_functions.specs.Functions.{FunctionFits, EntersAs, ArrivedAs, ReturnsAs, FunctionEnds, FunctionRuns}
-use Rattle.memory_functions.specs.Laws.{Arrives, FunctionsRun}
+use Rattle.memory_words.proofs.PutListing.{comes, fails_first, fails_second}
+use Rattle.memory_statements.proofs.Block.{has_home_of}
+use Rattle.memory_functions.specs.GoalFunctions.{is_param, numbers_from, together_check, ensure_checks, all_ensured, param_made, params_made, body_point, ending, in_params, function_word}
+use Rattle.memory_functions.specs.Words.{Written, shape_in}
+use Rattle.memory_functions.specs.FunctionFunctions.{FunctionFits, EntersAs, ArrivedAs, ReturnsAs, FunctionEnds, FunctionRuns}
+use Rattle.memory_functions.specs.FunctionLaws.{Arrives, FunctionsRun}
 use Rattle.memory_functions.proofs.Arriving.{parameters_arrive}
 use Rattle.memory_functions.proofs.Tests.{Comes, Asks, goes, stops as asks_stop, asks_way, ask_stops, ask_goes}
 use Rattle.memory_functions.proofs.Contracts.{togethers_come, all_come}

@@ -12,15 +12,15 @@ use Rattle.qed_terms.specs.Tree.{Tree, num, at_most, less}
 use Rattle.c_runs.specs.Program.{Claim, Measure, Loop, Facts}
 use Rattle.walk_steps.specs.Forms.{Place}
 use Rattle.memory_steps.specs.Forms.{Slots, Check}
-use Rattle.memory_slots.specs.Leaves.{fill, is_closed}
-use Rattle.memory_slots.specs.Places.{Sizes}
+use Rattle.memory_words.specs.Leaves.{fill, is_closed}
+use Rattle.memory_words.specs.Places.{Sizes}
 use Rattle.memory_annotations.specs.Closed.{ReadingClosed}
-use Rattle.memory_readings.specs.Shapes.{FileCells, Shape, sizes}
-use Rattle.memory_readings.specs.Readings.{Texts}
+use Rattle.memory_words.specs.Shapes.{FileCells, Shape, sizes}
+use Rattle.memory_words.specs.Readings.{Texts}
 use Rattle.memory_words.specs.Points.{Point}
 use Rattle.memory_words.specs.Sets.{claim_tree}
 use Rattle.memory_words.specs.Words.{check}
-use Rattle.memory_loops.specs.Words.{or_zero, measure_tree, end_reading, before_reading, variant_checks}
+use Rattle.memory_calls.specs.LoopWords.{or_zero, measure_tree, end_reading, before_reading, variant_checks}
 use Rattle.memory_frames.specs.Asked.{Written, written_check}
 use Rattle.memory_frames.proofs.Telling.{closed_is, all_so}
 use Rattle.memory_frames.proofs.Closedness.{claim_closed, formulas_closed}

@@ -5,17 +5,17 @@ use Rattle.acsl_trees.specs.Tree as acsl
 use Rattle.qed_terms.specs.Tree.{Tree}
 use Rattle.c_runs.specs.Program.{Claim, Behavior, Contract, Loop, Facts}
 use Rattle.core_checks.specs.Tree.{Steps}
-use Rattle.memory_slots.specs.Leaves.{is_closed}
-use Rattle.memory_readings.specs.Shapes.{FileCells, Shape}
-use Rattle.memory_readings.specs.Readings.{Texts, Standpoint, body_reading}
+use Rattle.memory_words.specs.Leaves.{is_closed}
+use Rattle.memory_words.specs.Shapes.{FileCells, Shape}
+use Rattle.memory_words.specs.Readings.{Texts, Standpoint, body_reading}
 use Rattle.memory_annotations.specs.Closed.{ReadingClosed}
 use Rattle.memory_annotations.proofs.OverArguments.{annotations_closed}
 use Rattle.memory_words.specs.Points.{Force, of_function, of_loop, Point, later, at_present}
 use Rattle.memory_words.specs.Regions.{RegionTree, regions_in, regions_inside}
 use Rattle.memory_words.specs.Sets.{under, since, entry_at, assumed_at}
 use Rattle.memory_words.specs.Words.{entered_loop}
-use Rattle.memory_loops.specs.Sets.{lacks_some, some_outside, inside_by, own_reading, clause_trees, all_clause_trees, within, inside_trees, turns}
-use Rattle.memory_loops.specs.Words.{stay_trees, head_tree}
+use Rattle.memory_calls.specs.LoopSets.{lacks_some, some_outside, inside_by, own_reading, clause_trees, all_clause_trees, within, inside_trees, turns}
+use Rattle.memory_calls.specs.LoopWords.{stay_trees, head_tree}
 use Rattle.memory_frames.specs.Asked.{AreClosed}
 use Rattle.memory_frames.specs.Laws.{RegionsClosed}
 use Rattle.memory_frames.proofs.Telling.{all_parts, all_so}

@@ -6,12 +6,12 @@ use Rattle.acsl_encode.specs.Readings.{Reading, Terms, integer, truth, address, 
 use Rattle.acsl_encode.specs.Encode.{terms_of}
 use Rattle.qed_terms.specs.Tree.{Tree}
 use Rattle.memory_steps.specs.Forms.{Slots}
-use Rattle.memory_slots.specs.Leaves.{fill}
+use Rattle.memory_words.specs.Leaves.{fill}
 use Rattle.memory_annotations.specs.Closed.{ReadingClosed}
 use Rattle.memory_annotations.specs.Filled.{fill_terms, filled}
 use Rattle.memory_annotations.proofs.OverArguments.{annotations_filled}
 use Rattle.memory_words.specs.Regions.{RegionTree, region_in, regions_in, has_kind}
-use Rattle.memory_loops.specs.Sets.{inside_by, some_has}
+use Rattle.memory_calls.specs.LoopSets.{inside_by, some_has}
 use Rattle.memory_frames.specs.Regions.{fill_region, fill_regions}
 use Rattle.memory_frames.proofs.Set_filled.{insides_filled}
 use Rattle.memory_loop_walks.proofs.Lists.{map_both}

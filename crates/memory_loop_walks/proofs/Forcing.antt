@@ -12,7 +12,7 @@ use Rattle.c_runs.specs.Program.{Contract, Loop}
 use Rattle.memory_words.specs.Points.{Force, of_function, of_loop, Point, Open, Out}
 use Rattle.core_checks.specs.Tree.{Steps}
 use Rattle.memory_words.specs.Sets.{has_variable}
-use Rattle.memory_loops.specs.Sets.{InForce, by_own, in_force, variable_changes}
+use Rattle.memory_calls.specs.LoopSets.{InForce, by_own, in_force, variable_changes}
 use Rattle.memory_frames.specs.declared.frames.Frame.{Frame}
 use Rattle.memory_frames.specs.declared.frames.Point.{Point as CodePoint}
 use Rattle.memory_frames.specs.declared.frames.Stands.{Stands}

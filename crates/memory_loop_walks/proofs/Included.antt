@@ -12,13 +12,13 @@ use Rattle.qed_terms.specs.declared.term.Formula.TheVariants as formula
 use Rattle.qed_terms.proofs.Equations.{formula_tree-False}
 use Rattle.c_runs.specs.Program.{Facts}
 use Rattle.memory_steps.specs.Forms.{Slots}
-use Rattle.memory_slots.specs.Leaves.{fill}
-use Rattle.memory_readings.specs.Shapes.{FileCells, Shape}
-use Rattle.memory_readings.specs.Readings.{Texts}
+use Rattle.memory_words.specs.Leaves.{fill}
+use Rattle.memory_words.specs.Shapes.{FileCells, Shape}
+use Rattle.memory_words.specs.Readings.{Texts}
 use Rattle.memory_words.specs.Points.{Point}
 use Rattle.memory_words.specs.Regions.{RegionTree, regions_in, regions_inside}
 use Rattle.memory_words.specs.Sets.{under, as_one_unless, since, entry_at, assumed_at}
-use Rattle.memory_loops.specs.Sets.{inside_by, lacks_some, own_reading, clause_trees, all_clause_trees}
+use Rattle.memory_calls.specs.LoopSets.{inside_by, lacks_some, own_reading, clause_trees, all_clause_trees}
 use Rattle.program_trees.specs.declared.contracts.Behavior.{Behavior as CodeBehavior}
 use Rattle.program_trees.specs.View.{view_behavior}
 use Rattle.memory_frames.specs.Regions.{region_trees}

@@ -9,7 +9,7 @@ use Rattle.core_trees.specs.View.{view_loop}
 use Rattle.core_trees.specs.declared.claims.Loop.{Loop}
 use Rattle.plain_runs.specs.Kept.{some_sets}
 use Rattle.memory_words.specs.Sets.{has_variable}
-use Rattle.memory_loops.specs.Sets.{lets_local}
+use Rattle.memory_calls.specs.LoopSets.{lets_local}
 use Rattle.walk_live.specs.Bits.{bits}
 use Rattle.walk_live.proofs.Bitwise.{bits_push, bits_length}
 

@@ -7,10 +7,10 @@ use Rattle.acsl_encode.specs.Readings.{Reading}
 use Rattle.c_runs.specs.Program.{Facts}
 use Rattle.memory_steps.specs.World.{count_of}
 use Rattle.memory_steps.specs.Forms.{Slots}
-use Rattle.memory_slots.specs.Leaves.{fill}
-use Rattle.memory_slots.proofs.Leaves.{written_table_leaf}
-use Rattle.memory_readings.specs.Shapes.{FileCells, Shape}
-use Rattle.memory_readings.specs.Readings.{InScope, Texts, Standpoint, body_reading, entry_reading}
+use Rattle.memory_words.specs.Leaves.{fill}
+use Rattle.memory_words.proofs.Leaves.{written_table_leaf}
+use Rattle.memory_words.specs.Shapes.{FileCells, Shape}
+use Rattle.memory_words.specs.Readings.{InScope, Texts, Standpoint, body_reading, entry_reading}
 use Rattle.memory_annotations.specs.Bodies.{body_over}
 use Rattle.memory_annotations.specs.Closed.{ReadingClosed}
 use Rattle.memory_annotations.specs.Filled.{filled}
@@ -20,7 +20,7 @@ use Rattle.memory_words.specs.Regions.{regions_in}
 use Rattle.memory_words.specs.Renewal.{Leave, of_regions}
 use Rattle.memory_words.specs.Sets.{since}
 use Rattle.memory_words.specs.Words.{entered_loop, own_kind}
-use Rattle.memory_loops.specs.Sets.{InForce, anything, by_function, by_loop, by_own, set_regions, leave_of, renewed_kind}
+use Rattle.memory_calls.specs.LoopSets.{InForce, anything, by_function, by_loop, by_own, set_regions, leave_of, renewed_kind}
 use Rattle.memory_frames.specs.Regions.{fill_regions}
 use Rattle.memory_frames.proofs.Closedness.{since_closed, one_closed, regions_closed}
 use Rattle.changed_memories.specs.Leaving.{fill_leave, LeaveClosed}

@@ -6,8 +6,8 @@ use Rattle.typed_prog.specs.declared.operators.Variable.{Variable}
 use Rattle.acsl_trees.specs.declared.tree.Tree.{Tree as Code}
 use Rattle.acsl_trees.specs.Tree.{Tree, view_tree, view_trees}
 use Rattle.c_runs.specs.Program.{Facts}
-use Rattle.memory_readings.specs.Shapes.{Shape}
-use Rattle.memory_loops.specs.Sets.{region_variable, lacks_file, lacks_some, is_outside, some_outside}
+use Rattle.memory_words.specs.Shapes.{Shape}
+use Rattle.memory_calls.specs.LoopSets.{region_variable, lacks_file, lacks_some, is_outside, some_outside}
 
 module _ (test : Option Variable → Bool) where
   abbrev some_so : List Code → Bool

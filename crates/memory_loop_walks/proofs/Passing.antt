@@ -9,16 +9,16 @@ use Rattle.walk_steps.specs.Walk.{Goal}
 use Rattle.memory_steps.specs.State.{Base}
 use Rattle.memory_steps.specs.Step.{Step, seq, halt, count}
 use Rattle.memory_steps.specs.Walk.{then_walk}
-use Rattle.memory_slots.specs.Places.{Sizes}
-use Rattle.memory_readings.specs.Shapes.{FileCells, Shape}
-use Rattle.memory_readings.specs.Readings.{Texts}
+use Rattle.memory_words.specs.Places.{Sizes}
+use Rattle.memory_words.specs.Shapes.{FileCells, Shape}
+use Rattle.memory_words.specs.Readings.{Texts}
 use Rattle.memory_words.specs.Points.{Point}
 use Rattle.memory_words.specs.Words.{ask_all}
 use Rattle.memory_walks.specs.Walks.{Held, Walks, walk_at}
 use Rattle.memory_walks.proofs.Walking.{seq_goes, seq_stops, halt_walks, remember_walks, transported}
 use Rattle.memory_walks.proofs.Along.{seq_assoc}
 use Rattle.memory_frames.specs.View.{Still}
-use Rattle.memory_loops.specs.Words.{loop_word}
+use Rattle.memory_calls.specs.LoopWords.{loop_word}
 use Rattle.memory_loop_walks.specs.Parts.{set_step, head_step, end_step}
 use Rattle.memory_loop_walks.specs.Passes.{Entered, Ends, Left}
 

@@ -12,7 +12,7 @@ use Rattle.core_trees.specs.declared.variables.FunctionVariable.{FunctionVariabl
 use Rattle.memory_annotations.specs.declared.regions.Region.{Region}
 use Rattle.memory_words.specs.Regions.{has_kind}
 use Rattle.memory_words.specs.Words.{has_cell_of, own_kind}
-use Rattle.memory_loops.specs.Sets.{some_has}
+use Rattle.memory_calls.specs.LoopSets.{some_has}
 use Rattle.memory_frames.specs.Regions.{region_tree, region_trees}
 use Rattle.changed_memories.specs.Flags.{flag_of}
 use Rattle.memory_loop_walks.proofs.Lists.{map_push}

@@ -2,8 +2,8 @@
 use Rattle.std.proofs.Common.{◌≡◌, List, subst}
 use Rattle.c_runs.specs.Program.{Facts}
 use Rattle.memory_steps.specs.Forms.{Slots}
-use Rattle.memory_readings.specs.Shapes.{FileCells, Shape}
-use Rattle.memory_readings.specs.Readings.{Texts, Standpoint, body_reading}
+use Rattle.memory_words.specs.Shapes.{FileCells, Shape}
+use Rattle.memory_words.specs.Readings.{Texts, Standpoint, body_reading}
 use Rattle.memory_frames.specs.Labelled.{Labelled}
 use Rattle.memory_frames.specs.declared.labels.Labels.{Labels}
 

@@ -10,13 +10,13 @@ use Rattle.core_trees.specs.declared.claims.Loop.{Loop}
 use Rattle.c_runs.specs.Program.{Contract, Facts}
 use Rattle.qed_terms.specs.Tree.{Tree}
 use Rattle.memory_steps.specs.Forms.{Slots}
-use Rattle.memory_slots.specs.Leaves.{fill}
-use Rattle.memory_readings.specs.Shapes.{FileCells, Shape}
-use Rattle.memory_readings.specs.Readings.{Texts}
+use Rattle.memory_words.specs.Leaves.{fill}
+use Rattle.memory_words.specs.Shapes.{FileCells, Shape}
+use Rattle.memory_words.specs.Readings.{Texts}
 use Rattle.memory_words.specs.Points as words
 use Rattle.memory_words.specs.Points.{of_function, Open, Out}
 use Rattle.c_runs.specs.Program as program
-use Rattle.memory_loops.specs.Words.{stay_trees}
+use Rattle.memory_calls.specs.LoopWords.{stay_trees}
 use Rattle.memory_frames.specs.View.{view_force, view_point}
 use Rattle.memory_frames.specs.declared.frames.Frame.{Frame}
 use Rattle.memory_frames.specs.declared.frames.Stands.{Stands}

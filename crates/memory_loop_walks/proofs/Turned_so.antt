@@ -3,7 +3,7 @@ use Rattle.std.proofs.Common.{◌≡◌, ◌<◌, ℕ, suc, Bool, List, [], ◌�
 use Rattle.core_trees.specs.View.{view_variables}
 use Rattle.core_trees.specs.declared.variables.FunctionVariable.{FunctionVariable}
 use Rattle.memory_steps.specs.Forms.{Slots}
-use Rattle.memory_havoc.specs.Havoc.{Havoc}
+use Rattle.memory_calls.specs.Havoc.{Havoc}
 use Rattle.memory_frames.specs.declared.frames.Frame.{Frame}
 use Rattle.changed_memories.specs.Flags.{flag_at}
 use Rattle.changed_memories.specs.Changed.{FileChanges, ChangesAre, LeaveStands}

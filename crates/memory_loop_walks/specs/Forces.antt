@@ -3,8 +3,8 @@ use Rattle.std.specs.Prelude.{List, Option, Some, None}
 use Rattle.acsl_trees.specs.Tree as acsl
 use Rattle.acsl_trees.specs.Tree.{view_trees}
 use Rattle.memory_words.specs.Points.{Force, of_function, of_loop}
-use Rattle.memory_loops.specs.Sets as spec
-use Rattle.memory_loops.specs.Sets.{anything, by_function, by_loop, by_own}
+use Rattle.memory_calls.specs.LoopSets as spec
+use Rattle.memory_calls.specs.LoopSets.{anything, by_function, by_loop, by_own}
 use Rattle.memory_frames.specs.View.{view_stands}
 use Rattle.memory_loop_walks.specs.declared.forces.InForce.{InForce}
 use Rattle.memory_loop_walks.specs.declared.forces.InForce.TheVariants as force

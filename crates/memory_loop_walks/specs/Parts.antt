@@ -12,18 +12,18 @@ use Rattle.walk_steps.specs.Forms.{Place}
 use Rattle.program_steps.specs.Stops.{broken_place, kept_place}
 use Rattle.memory_steps.specs.Forms.{Check}
 use Rattle.memory_steps.specs.Step.{Step, seq, ask, know}
-use Rattle.memory_slots.specs.Leaves.{form}
-use Rattle.memory_slots.specs.Places.{Sizes}
-use Rattle.memory_readings.specs.Shapes.{FileCells, Shape, sizes}
-use Rattle.memory_readings.specs.Readings.{Texts}
+use Rattle.memory_words.specs.Leaves.{form}
+use Rattle.memory_words.specs.Places.{Sizes}
+use Rattle.memory_words.specs.Shapes.{FileCells, Shape, sizes}
+use Rattle.memory_words.specs.Readings.{Texts}
 use Rattle.memory_words.specs.Points.{Point, later}
 use Rattle.memory_words.specs.Regions.{RegionTree}
 use Rattle.memory_words.specs.Sets.{claim_tree, since, entry_at, assumed_at}
 use Rattle.memory_words.specs.Words.{check, ask_all, own_kind}
-use Rattle.memory_havoc.specs.Havoc.{havoc_word}
-use Rattle.memory_havoc.specs.Stays.{all_stay}
-use Rattle.memory_loops.specs.Sets.{InForce, anything, by_own, some_has, inside_trees, turns}
-use Rattle.memory_loops.specs.Words.{measure_tree, stay_trees, head_tree, entry_check, end_checks}
+use Rattle.memory_calls.specs.Havoc.{havoc_word}
+use Rattle.memory_calls.specs.Stays.{all_stay}
+use Rattle.memory_calls.specs.LoopSets.{InForce, anything, by_own, some_has, inside_trees, turns}
+use Rattle.memory_calls.specs.LoopWords.{measure_tree, stay_trees, head_tree, entry_check, end_checks}
 
 -- ---- checks
 

@@ -8,7 +8,7 @@ use Rattle.memory_steps.specs.Forms.{Slots}
 use Rattle.memory_words.specs.Regions.{RegionTree}
 use Rattle.memory_words.specs.Renewal as words
 use Rattle.memory_words.specs.Renewal.{of_all, of_regions}
-use Rattle.memory_havoc.specs.Havoc.{Havoc}
+use Rattle.memory_calls.specs.Havoc.{Havoc}
 use Rattle.memory_frames.specs.declared.frames.Frame.{Frame}
 use Rattle.memory_frames.specs.View.{shape_in}
 use Rattle.changed_memories.specs.Flags.{flag_at}

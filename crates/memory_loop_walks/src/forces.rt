@@ -5,7 +5,7 @@ ghost use Rattle.acsl_trees.specs.Tree.{view_trees};
 ghost use Rattle.core_trees.specs.View.{view_loop};
 ghost use Rattle.memory_frames.specs.View.{view_force, view_point};
 ghost use Rattle.memory_loop_walks.specs.Forces.{force_around, view_in_force};
-ghost use Rattle.memory_loops.specs.Sets as spec;
+ghost use Rattle.memory_calls.specs.LoopSets as spec;
 ghost use Rattle.memory_words.specs.Points.{Open, Out};
 ghost use Rattle.program_trees.specs.View.{view_contract};
 

@@ -6,7 +6,7 @@ ghost use Rattle.core_checks.specs.Tree.{Steps};
 ghost use Rattle.core_trees.specs.View.{view_loop, view_variables};
 ghost use Rattle.memory_frames.specs.View.{facts_in, shape_in};
 ghost use Rattle.memory_loop_walks.specs.Forces.{view_in_force};
-ghost use Rattle.memory_loops.specs.Sets as spec;
+ghost use Rattle.memory_calls.specs.LoopSets as spec;
 ghost use Rattle.memory_words.specs.Typed.{is_plain_variable};
 ghost use Rattle.plain_runs.specs.Kept.{some_sets};
 ghost use Rattle.typed_prog.specs.declared.operators.Variable.TheVariants as variables;

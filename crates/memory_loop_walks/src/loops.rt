@@ -7,7 +7,7 @@ ghost use Rattle.memory_frames.specs.View.{bases_in, cells_in, facts_in, shape_i
 ghost use Rattle.memory_frames.specs.declared.frames.Frame as frames;
 ghost use Rattle.memory_loop_walks.specs.Parts.{end_step, head_step, set_step};
 ghost use Rattle.memory_loop_walks.specs.Passes.{Ends, Entered, Left};
-ghost use Rattle.memory_loops.specs.Words as words;
+ghost use Rattle.memory_calls.specs.LoopWords as words;
 ghost use Rattle.memory_steps.specs.Step as step;
 ghost use Rattle.memory_walks.specs.View.{view_state};
 ghost use Rattle.memory_walks.specs.Walks.{Walks};

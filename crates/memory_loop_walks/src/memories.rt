@@ -14,7 +14,7 @@ ghost use Rattle.memory_frames.specs.View.{cells_in, facts_in, shape_in, variabl
 ghost use Rattle.memory_loop_walks.specs.Forces.{view_in_force};
 ghost use Rattle.memory_loop_walks.specs.Parts as parts;
 ghost use Rattle.memory_loop_walks.specs.Turned as turned;
-ghost use Rattle.memory_loops.specs.Sets as spec;
+ghost use Rattle.memory_calls.specs.LoopSets as spec;
 ghost use Rattle.memory_steps.specs.Forms.{Slots};
 ghost use Rattle.memory_walks.specs.View.{view_state};
 ghost use Rattle.memory_walks.specs.Walks.{states};

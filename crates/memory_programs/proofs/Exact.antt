@@ -10,9 +10,9 @@ use Rattle.walk_steps.specs.Walk.{Goal, formula_of}
 use Rattle.program_steps.specs.Stops.{IsStop}
 use Rattle.program_steps.proofs.Filling.{on_bool}
 use Rattle.program_goals.proofs.Stops.{one_stop}
-use Rattle.memory_readings.specs.Shapes.{FileCells}
-use Rattle.memory_readings.specs.Readings.{Texts}
-use Rattle.memory_goals.specs.Words.{Written}
+use Rattle.memory_words.specs.Shapes.{FileCells}
+use Rattle.memory_words.specs.Readings.{Texts}
+use Rattle.memory_functions.specs.Words.{Written}
 use Rattle.memory_exact.specs.Laws.{SomeStops}
 use Rattle.memory_exact.proofs.Exact as exact
 use Rattle.memory_programs.specs.Programs.{others_in, fits_in, goals_of, ProgramFits}

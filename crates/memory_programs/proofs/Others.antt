@@ -8,19 +8,19 @@ use Rattle.c_runs.specs.Program.{Function, Program}
 use Rattle.core_checks.specs.Tree.{Steps}
 use Rattle.memory_steps.specs.State.{Base, base}
 use Rattle.memory_steps.specs.Step.{sort_at}
-use Rattle.memory_slots.specs.Places.{Place, places, slot}
-use Rattle.memory_slots.proofs.Listing.{slots_of_places}
-use Rattle.memory_readings.specs.Shapes.{FileCells, sizes, is_memory}
-use Rattle.memory_readings.specs.Readings.{Texts}
+use Rattle.memory_words.specs.Places.{Place, places, slot}
+use Rattle.memory_words.proofs.SlotListing.{slots_of_places}
+use Rattle.memory_words.specs.Shapes.{FileCells, sizes, is_memory}
+use Rattle.memory_words.specs.Readings.{Texts}
 use Rattle.memory_words.specs.Bases.{AreSorted}
 use Rattle.memory_words.specs.Others.{OthersRun}
-use Rattle.memory_loops.proofs.Good.{loops_are_good}
-use Rattle.memory_loops.proofs.Loops.{loops_run}
-use Rattle.memory_calls.proofs.Good.{calls_are_good}
+use Rattle.memory_calls.proofs.LoopGood.{loops_are_good}
+use Rattle.memory_calls.proofs.Loops.{loops_run}
+use Rattle.memory_calls.proofs.CallGood.{calls_are_good}
 use Rattle.memory_calls.proofs.Calls.{calls_run}
-use Rattle.memory_goals.specs.Words.{Written, shape_in, no_others, bases_in}
-use Rattle.memory_goodness.specs.Laws.{OthersAreGood, OthersStay}
-use Rattle.memory_goodness.proofs.Calling.{loops_stay, calls_stay}
+use Rattle.memory_functions.specs.Words.{Written, shape_in, no_others, bases_in}
+use Rattle.memory_functions.specs.GoodLaws.{OthersAreGood, OthersStay}
+use Rattle.memory_functions.proofs.Calling.{loops_stay, calls_stay}
 use Rattle.memory_programs.specs.Programs.{others_in, fits_in}
 
 -- ---- bases

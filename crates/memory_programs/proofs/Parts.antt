@@ -3,9 +3,9 @@ use Rattle.std.proofs.Common.{◌≡◌, ℕ, Some}
 use Rattle.qed_terms.specs.Setting.{Setting}
 use Rattle.c_runs.specs.Program.{Function, Program}
 use Rattle.core_checks.specs.Tree.{Steps}
-use Rattle.memory_readings.specs.Shapes.{FileCells}
-use Rattle.memory_readings.specs.Readings.{Texts}
-use Rattle.memory_goals.specs.Words.{Written}
+use Rattle.memory_words.specs.Shapes.{FileCells}
+use Rattle.memory_words.specs.Readings.{Texts}
+use Rattle.memory_functions.specs.Words.{Written}
 use Rattle.memory_exact.specs.Programs as exact
 use Rattle.memory_programs.specs.Programs.{others_in, fits_in, ProgramFits}
 use Rattle.memory_programs.proofs.Others.{others_run, others_good, others_stay}

@@ -22,10 +22,10 @@ use Rattle.program_steps.specs.Stops.{IsStop}
 use Rattle.memory_steps.specs.State.{State}
 use Rattle.memory_steps.specs.Step.{places}
 use Rattle.memory_steps.specs.Laws.{IsExact}
-use Rattle.memory_readings.specs.Shapes.{FileCells}
-use Rattle.memory_readings.specs.Readings.{Texts}
-use Rattle.memory_goals.specs.Words.{Written, shape_in, word_of, start_in, bases_in}
-use Rattle.memory_functions.specs.Functions.{EntersAs, FunctionEnds, FunctionRuns}
+use Rattle.memory_words.specs.Shapes.{FileCells}
+use Rattle.memory_words.specs.Readings.{Texts}
+use Rattle.memory_functions.specs.Words.{Written, shape_in, word_of, start_in, bases_in}
+use Rattle.memory_functions.specs.FunctionFunctions.{EntersAs, FunctionEnds, FunctionRuns}
 use Rattle.memory_exact.specs.Laws.{SomeStops, AreInOrder, StopsAt, CheckIsExact}
 use Rattle.memory_programs.specs.Programs.{others_in, goals_of, ProgramFits, AllValid}
 

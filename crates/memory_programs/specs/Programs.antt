@@ -9,16 +9,16 @@ use Rattle.walk_steps.specs.State.{In}
 use Rattle.walk_steps.specs.Walk.{Goal, formula_of}
 use Rattle.memory_steps.specs.World.{AreBases}
 use Rattle.memory_steps.specs.Laws.{goals}
-use Rattle.memory_readings.specs.Shapes.{FileCells}
-use Rattle.memory_readings.specs.Readings.{Texts}
-use Rattle.memory_readings.specs.Seen.{InSetting}
+use Rattle.memory_words.specs.Shapes.{FileCells}
+use Rattle.memory_words.specs.Readings.{Texts}
+use Rattle.memory_words.specs.Seen.{InSetting}
 use Rattle.memory_words.specs.Words.{Others}
 use Rattle.memory_words.specs.Typed.{OtherFits}
-use Rattle.memory_loops.specs.Fits.{LoopFits}
-use Rattle.memory_calls.specs.Fits.{CallFits}
-use Rattle.memory_goals.specs.Words.{Written, shape_in, others_of, word_of, start_in, bases_in}
-use Rattle.memory_functions.specs.Functions.{FunctionFits}
-use Rattle.memory_starts.specs.Fitting.{StartFits}
+use Rattle.memory_calls.specs.LoopFits.{LoopFits}
+use Rattle.memory_calls.specs.CallFits.{CallFits}
+use Rattle.memory_functions.specs.Words.{Written, shape_in, others_of, word_of, start_in, bases_in}
+use Rattle.memory_functions.specs.FunctionFunctions.{FunctionFits}
+use Rattle.memory_functions.specs.Fitting.{StartFits}
 use Rattle.memory_exact.specs.Programs.{OwnDiffer}
 
 module _ (setting : Setting) (q : Program Steps) (cells : FileCells) (texts : Texts) where

@@ -10,8 +10,8 @@ use Rattle.walk_steps.specs.Forms.{Place}
 use Rattle.memory_steps.specs.State.{State}
 use Rattle.memory_steps.specs.Run.{End, goes_on, leaves, fails, out, IsOver}
 use Rattle.program_steps.specs.Temporaries.{Temporaries}
-use Rattle.memory_readings.specs.Shapes.{FileCells, Shape}
-use Rattle.memory_readings.specs.Standing.{Frame, StandsFor}
+use Rattle.memory_words.specs.Shapes.{FileCells, Shape}
+use Rattle.memory_words.specs.Standing.{Frame, StandsFor}
 use Rattle.memory_words.specs.Placed.{Openings, FailsAs, Ends}
 
 -- inside of a block, from where those that are open stand around it

@@ -28,25 +28,25 @@ use Rattle.memory_steps.specs.State.{State}
 use Rattle.memory_steps.specs.Step.{Step, places, count}
 use Rattle.memory_steps.specs.Step as step
 use Rattle.memory_steps.specs.Run.{End}
-use Rattle.memory_slots.specs.Places.{result, result_offset, number_in, number_at}
-use Rattle.memory_readings.specs.Shapes.{FileCells, Shape, sizes}
-use Rattle.memory_readings.specs.Readings.{Texts, reading}
-use Rattle.memory_readings.specs.Standing.{IsHeldAs, Frame, StandsFor}
-use Rattle.memory_readings.specs.Seen.{InSetting, ValueFits}
+use Rattle.memory_words.specs.Places.{result, result_offset, number_in, number_at}
+use Rattle.memory_words.specs.Shapes.{FileCells, Shape, sizes}
+use Rattle.memory_words.specs.Readings.{Texts, reading}
+use Rattle.memory_words.specs.Standing.{IsHeldAs, Frame, StandsFor}
+use Rattle.memory_words.specs.Seen.{InSetting, ValueFits}
 use Rattle.memory_words.specs.Points.{Point, uses_of}
 use Rattle.memory_words.specs.Words as word
 use Rattle.memory_words.specs.Words.{Others, items_step}
 use Rattle.memory_words.specs.Placed.{Openings, Placed, Ends, BothWays}
-use Rattle.memory_puts.specs.Puts.{Keeps, NoPlace}
-use Rattle.memory_puts.specs.Values.{HasValue, Evaluates}
-use Rattle.memory_puts.specs.Laws.{SingleRuns}
-use Rattle.memory_puts.proofs.Standing.{slots_go_on}
-use Rattle.memory_puts.proofs.Storing.{content_value, content_leads}
-use Rattle.memory_puts.proofs.Setting.{results_are_set, temporaries_are_dropped}
-use Rattle.memory_puts.proofs.Valued.{expressions_evaluate}
-use Rattle.memory_puts.proofs.Ends.{asks_all, behind_one_end, items_run_well}
-use Rattle.memory_puts.proofs.Singles.{singles_are_runs}
-use Rattle.memory_scopes.proofs.Leaving.{exits_run}
+use Rattle.memory_words.specs.Puts.{Keeps, NoPlace}
+use Rattle.memory_words.specs.Values.{HasValue, Evaluates}
+use Rattle.memory_words.specs.PutLaws.{SingleRuns}
+use Rattle.memory_words.proofs.PutStanding.{slots_go_on}
+use Rattle.memory_words.proofs.Storing.{content_value, content_leads}
+use Rattle.memory_words.proofs.Setting.{results_are_set, temporaries_are_dropped}
+use Rattle.memory_words.proofs.Valued.{expressions_evaluate}
+use Rattle.memory_words.proofs.Ends.{asks_all, behind_one_end, items_run_well}
+use Rattle.memory_words.proofs.Singles.{singles_are_runs}
+use Rattle.memory_statements.proofs.Leaving.{exits_run}
 
 module _ (m : sense.World) (q : Program Steps) (s : Shape) (cells : FileCells) (texts : Texts) (contract : Contract) (others : Others) (setting : InSetting m q.facts s cells)
     (here : Here) (pt : Point) (olds : List State) (fr : Frame) (os : Openings) (placed : Placed m q.facts s cells texts contract pt here olds fr os)

@@ -18,11 +18,11 @@ use Rattle.value_terms.specs.Places.{way_items}
 use Rattle.value_terms.specs.Words.{Item, asked, known}
 use Rattle.walk_steps.specs.State.{at_or}
 use Rattle.memory_steps.specs.Forms.{Slots}
-use Rattle.memory_slots.specs.Places.{Place, value, offset, Sizes, slot}
-use Rattle.memory_slots.specs.Leaves.{leaf, memory_leaf, table_leaf, as_integer, as_memory, as_table, fill}
-use Rattle.memory_slots.proofs.Leaves.{written_leaf, written_memory_leaf, written_table_leaf, leaf_closed}
-use Rattle.memory_readings.specs.Shapes.{FileCells, Shape, sizes, kind_of}
-use Rattle.memory_readings.specs.Readings.{term_of_kind, variable_term, reading_at}
+use Rattle.memory_words.specs.Places.{Place, value, offset, Sizes, slot}
+use Rattle.memory_words.specs.Leaves.{leaf, memory_leaf, table_leaf, as_integer, as_memory, as_table, fill}
+use Rattle.memory_words.proofs.Leaves.{written_leaf, written_memory_leaf, written_table_leaf, leaf_closed}
+use Rattle.memory_words.specs.Shapes.{FileCells, Shape, sizes, kind_of}
+use Rattle.memory_words.specs.Readings.{term_of_kind, variable_term, reading_at}
 use Rattle.memory_values.specs.OverSlots.{fill_term, fill_item, kind_at, shape_of, leaf_reading, IsLevel, integer_at, memory_at, two_at, variable_at, slot_reading}
 use Rattle.memory_values.specs.View.{placed}
 use Rattle.memory_values.specs.Laws.{IsFilled, AreFilled, ValuesAreFilled}

@@ -12,7 +12,7 @@ use Rattle.value_terms.specs.Places.{way_items}
 use Rattle.value_terms.specs.Terms.{address_term, term_of, terms_of}
 use Rattle.value_terms.specs.Words.{word_of, words}
 use Rattle.memory_steps.specs.Forms.{Slots}
-use Rattle.memory_readings.specs.Shapes.{Shape}
+use Rattle.memory_words.specs.Shapes.{Shape}
 use Rattle.memory_values.specs.declared.items.Item.{Item}
 use Rattle.memory_values.specs.declared.terms.ValueTerm.{ValueTerm}
 use Rattle.memory_values.specs.Drafts.{ValueIs, Pushes}

@@ -6,7 +6,7 @@ use Rattle.qed_terms.specs.declared.head.FormOp.{FormOp}
 use Rattle.qed_terms.specs.declared.head.FormOp.TheVariants as form
 use Rattle.qed_terms.specs.Tree.{Tree, node, Trees, stop, more, one, two, three, num, ite, equal, at_most, less, not_of}
 use Rattle.memory_steps.specs.Forms.{Slots}
-use Rattle.memory_slots.specs.Leaves.{fill, fill_all, is_closed, are_closed}
+use Rattle.memory_words.specs.Leaves.{fill, fill_all, is_closed, are_closed}
 
 pub record Written (strict : Bool) (ss : List Slots) (t u : Tree) : Type 0 where
   pub closed : strict ≡ true → is_closed [] t ≡ true

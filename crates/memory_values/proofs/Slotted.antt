@@ -18,9 +18,9 @@ use Rattle.value_terms.specs.Readings as readings
 use Rattle.value_terms.specs.Readings.{as_pointer, block_term, offset_term, term_at}
 use Rattle.value_terms.specs.Terms.{of_two, field_term}
 use Rattle.walk_steps.specs.State.{at_or}
-use Rattle.memory_slots.specs.Places.{double, triple}
-use Rattle.memory_slots.specs.Leaves.{is_integer_head, is_memory_head, is_table_head, no_memory, no_table, as_integer, as_memory, as_table}
-use Rattle.memory_readings.specs.Shapes.{sizes}
+use Rattle.memory_words.specs.Places.{double, triple}
+use Rattle.memory_words.specs.Leaves.{is_integer_head, is_memory_head, is_table_head, no_memory, no_table, as_integer, as_memory, as_table}
+use Rattle.memory_words.specs.Shapes.{sizes}
 use Rattle.memory_values.specs.declared.terms.ValueTerm.{ValueTerm}
 use Rattle.memory_values.specs.Drafts.{ValueIs}
 use Rattle.memory_values.specs.OverSlots.{shape_of}

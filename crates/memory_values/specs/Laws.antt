@@ -11,10 +11,10 @@ use Rattle.value_terms.specs.Terms.{address_term, term_of, terms_of}
 use Rattle.value_terms.specs.Words.{word_of, words}
 use Rattle.value_terms.specs.Places.{way_items}
 use Rattle.memory_steps.specs.Forms.{Slots}
-use Rattle.memory_slots.specs.Leaves.{fill, is_closed}
-use Rattle.memory_readings.specs.Shapes.{FileCells, Shape}
-use Rattle.memory_readings.specs.Readings.{reading_at}
-use Rattle.memory_readings.specs.Seen.{is_closed_item, is_closed_term}
+use Rattle.memory_words.specs.Leaves.{fill, is_closed}
+use Rattle.memory_words.specs.Shapes.{FileCells, Shape}
+use Rattle.memory_words.specs.Readings.{reading_at}
+use Rattle.memory_words.specs.Seen.{is_closed_item, is_closed_term}
 use Rattle.memory_values.specs.OverSlots.{fill_term, fill_item, IsLevel, slot_reading}
 use Rattle.memory_values.specs.View.{placed}
 

@@ -14,10 +14,10 @@ use Rattle.rte_checks.specs.Checks.{here}
 use Rattle.value_terms.specs.Readings.{Term, as_number, as_test, as_pointer, Reading}
 use Rattle.value_terms.specs.Words.{Item, asked, known}
 use Rattle.memory_steps.specs.Forms.{Slots}
-use Rattle.memory_slots.specs.Places.{Place, value, offset, flag, temporary, temporary_offset, numbers, blocks, offsets, Sizes, slot}
-use Rattle.memory_slots.specs.Leaves.{as_integer, as_memory, as_table, terms_in, tables_in, fill}
-use Rattle.memory_readings.specs.Shapes.{Shape, sizes, kind_of}
-use Rattle.memory_readings.specs.Readings.{term_of_kind, reading_at}
+use Rattle.memory_words.specs.Places.{Place, value, offset, flag, temporary, temporary_offset, numbers, blocks, offsets, Sizes, slot}
+use Rattle.memory_words.specs.Leaves.{as_integer, as_memory, as_table, terms_in, tables_in, fill}
+use Rattle.memory_words.specs.Shapes.{Shape, sizes, kind_of}
+use Rattle.memory_words.specs.Readings.{term_of_kind, reading_at}
 
 -- ---- what is written
 

@@ -9,9 +9,9 @@ use Rattle.rte_checks.specs.Checks.{here}
 use Rattle.check_lists.specs.View.{view_undefined}
 use Rattle.value_terms.specs.Readings as plain
 use Rattle.value_terms.specs.Words as words
-use Rattle.memory_slots.specs.Places as places
-use Rattle.memory_slots.specs.Places.{Sizes}
-use Rattle.memory_readings.specs.Shapes.{Shape, sizes}
+use Rattle.memory_words.specs.Places as places
+use Rattle.memory_words.specs.Places.{Sizes}
+use Rattle.memory_words.specs.Shapes.{Shape, sizes}
 use Rattle.memory_values.specs.declared.terms.ValueTerm.{ValueTerm}
 use Rattle.memory_values.specs.declared.terms.ValueTerm.TheVariants as term
 use Rattle.memory_values.specs.declared.items.Item.{Item}

@@ -1,7 +1,7 @@
 // What expressions read: variables and temporaries by their kinds, flags, homes, the table of blocks and memories.
 ghost use Rattle.std.specs.Prelude.{◌≡◌, slice_get};
 ghost use Rattle.core_trees.specs.View.{view_variable, view_variables};
-ghost use Rattle.memory_readings.specs.Shapes.{kind_of as spec_kind};
+ghost use Rattle.memory_words.specs.Shapes.{kind_of as spec_kind};
 ghost use Rattle.memory_values.specs.Drafts.{ValueIs};
 ghost use Rattle.memory_values.specs.OverSlots.{integer_at, kind_at, memory_at, two_at, variable_at};
 ghost use Rattle.memory_values.specs.View.{sizes_in, slots_in, view_place, view_reading};

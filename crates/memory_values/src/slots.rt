@@ -1,7 +1,7 @@
 // Which slot holds what, and what stands there.
 ghost use Rattle.std.specs.Prelude.{◌≡◌, ◌+◌, map, pos, IfOk};
-ghost use Rattle.memory_slots.specs.Leaves.{as_integer, as_memory, as_table, is_integer_head, is_memory_head, is_table_head};
-ghost use Rattle.memory_slots.specs.Places as spec;
+ghost use Rattle.memory_words.specs.Leaves.{as_integer, as_memory, as_table, is_integer_head, is_memory_head, is_table_head};
+ghost use Rattle.memory_words.specs.Places as spec;
 ghost use Rattle.memory_values.specs.View.{sizes_in, view_place, view_sizes};
 ghost use Rattle.qed_terms.specs.Tree.{head_of, node, num, stop};
 ghost use Rattle.qed_terms.specs.View.{term_tree};
@@ -150,7 +150,7 @@ fn memory_slot(sizes: Sizes, which: usize) -> Result<usize, NoMemory>
 }
 
 /// The slot of a place.
-#[tactic(auto, unfolding(memory_slots::specs::Places::slot))]
+#[tactic(auto, unfolding(memory_words::specs::Places::slot))]
 pub fn slot_of(sizes: Sizes, place: Place) -> Result<usize, NoMemory>
     ensures { IfOk result (λ slot. slot ≡ spec.slot (view_sizes sizes) (view_place place)) }
 {

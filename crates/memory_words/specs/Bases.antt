@@ -2,8 +2,8 @@
 use Rattle.std.specs.Prelude.{◌≡◌, List}
 use Rattle.memory_steps.specs.State.{Base}
 use Rattle.memory_steps.specs.Step.{sort_at}
-use Rattle.memory_slots.specs.Places.{Place, Sizes, IsIn, slot}
-use Rattle.memory_readings.specs.Shapes.{FileCells, is_memory}
+use Rattle.memory_words.specs.Places.{Place, Sizes, IsIn, slot}
+use Rattle.memory_words.specs.Shapes.{FileCells, is_memory}
 
 -- bases of the sorts of their places
 abbrev pub AreSorted : Sizes → FileCells → List Base → Type 0

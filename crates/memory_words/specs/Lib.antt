@@ -1,3 +1,13 @@
+pub mod Places
+pub mod Leaves
+pub mod SlotLaws
+pub mod SlotExamples
+pub mod Shapes
+pub mod Readings
+pub mod Standing
+pub mod Seen
+pub mod ReadingLaws
+pub mod ReadingExamples
 pub mod Points
 pub mod Regions
 pub mod Renewal
@@ -7,4 +17,7 @@ pub mod Typed
 pub mod Placed
 pub mod Others
 pub mod Bases
-pub mod Examples
+pub mod WordExamples
+pub mod Puts
+pub mod Values
+pub mod PutLaws

@@ -11,10 +11,10 @@ use Rattle.goal_segments.specs.Segments.{Seg, AllSeg}
 use Rattle.memory_steps.specs.State.{State}
 use Rattle.memory_steps.specs.Step.{Step, places}
 use Rattle.program_steps.specs.Temporaries.{Temporaries, no_temporaries, live, all_live}
-use Rattle.memory_readings.specs.Shapes.{FileCells, Shape}
-use Rattle.memory_readings.specs.Readings.{Texts}
-use Rattle.memory_readings.specs.Standing.{Frame, StandsFor}
-use Rattle.memory_readings.specs.Seen.{InSetting}
+use Rattle.memory_words.specs.Shapes.{FileCells, Shape}
+use Rattle.memory_words.specs.Readings.{Texts}
+use Rattle.memory_words.specs.Standing.{Frame, StandsFor}
+use Rattle.memory_words.specs.Seen.{InSetting}
 use Rattle.memory_words.specs.Points.{Point, uses_of}
 use Rattle.memory_words.specs.Words.{Others, in_pass}
 use Rattle.memory_words.specs.Typed.{OtherFits}

@@ -26,14 +26,14 @@ use Rattle.walk_steps.specs.Forms.{Place as CheckPlace}
 use Rattle.memory_steps.specs.State.{State, state}
 use Rattle.memory_steps.specs.Step.{Step}
 use Rattle.memory_steps.specs.Run.{End, goes_on, leaves, fails, Seg}
-use Rattle.memory_slots.specs.Places.{result, result_offset, number_at}
-use Rattle.memory_slots.specs.Leaves.{leaves_of, is_closed, closed}
+use Rattle.memory_words.specs.Places.{result, result_offset, number_at}
+use Rattle.memory_words.specs.Leaves.{leaves_of, is_closed, closed}
 use Rattle.program_steps.specs.Stops.{IsStop}
 use Rattle.program_steps.specs.Temporaries.{Temporaries, no_temporaries, out_at}
-use Rattle.memory_readings.specs.Shapes.{FileCells, Shape, sizes}
-use Rattle.memory_readings.specs.Readings.{InScope, Texts, Standpoint, body_reading}
-use Rattle.memory_readings.specs.Standing.{IsHeldAs, Frame, StandsFor}
-use Rattle.memory_readings.specs.Seen.{state_of, SeenInBody, SeenByContract, SeenAtLoop, BodySeen}
+use Rattle.memory_words.specs.Shapes.{FileCells, Shape, sizes}
+use Rattle.memory_words.specs.Readings.{InScope, Texts, Standpoint, body_reading}
+use Rattle.memory_words.specs.Standing.{IsHeldAs, Frame, StandsFor}
+use Rattle.memory_words.specs.Seen.{state_of, SeenInBody, SeenByContract, SeenAtLoop, BodySeen}
 use Rattle.memory_words.specs.Points.{Open, Out, Force, of_function, of_loop, Point, uses_of}
 use Rattle.memory_words.specs.Sets.{variable_trees, cell_trees}
 use Rattle.memory_words.specs.Words.{own_kind}

@@ -2,8 +2,8 @@
 use Rattle.std.specs.Prelude.{ℕ, zero, suc, Bool, List, [], ◌∷◌, ◌++◌, map, Option, Some, None, option_map}
 use Rattle.wp_base.specs.declared.kinds.CellKind.{CellKind}
 use Rattle.acsl_trees.specs.Tree as acsl
-use Rattle.memory_readings.specs.Readings.{Standpoint, InScope}
-use Rattle.memory_readings.specs.Standing.{Temporaries}
+use Rattle.memory_words.specs.Readings.{Standpoint, InScope}
+use Rattle.memory_words.specs.Standing.{Temporaries}
 
 -- a scope with blocks that is open: which of the remembered states is that before its blocks were made, the last one being 0, and the kinds of their cells
 pub record Open : Type 0 where

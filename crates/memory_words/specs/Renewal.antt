@@ -10,8 +10,8 @@ use Rattle.qed_terms.specs.declared.head.FormOp.TheVariants as form_op
 use Rattle.qed_terms.specs.Tree.{Tree, node, two, three, trees_of, var}
 use Rattle.memory_steps.specs.World.{memory_var}
 use Rattle.memory_steps.specs.Step.{Change, keeps, fresh, Step, seq, change, remember}
-use Rattle.memory_slots.specs.Places.{Place, Sizes, numbers, blocks, offsets, changes_by}
-use Rattle.memory_slots.specs.Leaves.{leaf_name, memory_leaf, table_leaf, fact}
+use Rattle.memory_words.specs.Places.{Place, Sizes, numbers, blocks, offsets, changes_by}
+use Rattle.memory_words.specs.Leaves.{leaf_name, memory_leaf, table_leaf, fact}
 use Rattle.memory_words.specs.Regions.{RegionTree, of_kind, shapes_of, bounds_of}
 
 -- the new list, in its facts

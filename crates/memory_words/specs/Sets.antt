@@ -11,9 +11,9 @@ use Rattle.acsl_encode.specs.Encode.{formula_of, all_of}
 use Rattle.qed_terms.specs.Tree.{Tree, false_tree, imp_of}
 use Rattle.c_runs.specs.Program.{Behavior, Contract, Facts}
 use Rattle.memory_steps.specs.World.{count_of}
-use Rattle.memory_slots.specs.Leaves.{table_leaf}
-use Rattle.memory_readings.specs.Shapes.{FileCells, Shape}
-use Rattle.memory_readings.specs.Readings.{Texts, Standpoint, InScope, body_reading, entry_reading}
+use Rattle.memory_words.specs.Leaves.{table_leaf}
+use Rattle.memory_words.specs.Shapes.{FileCells, Shape}
+use Rattle.memory_words.specs.Readings.{Texts, Standpoint, InScope, body_reading, entry_reading}
 use Rattle.memory_words.specs.Points.{Force, of_function, of_loop, Point}
 use Rattle.memory_words.specs.Regions.{RegionTree, regions_in, cell_inside}
 

@@ -33,10 +33,10 @@ use Rattle.value_terms.specs.Places.{way_items}
 use Rattle.value_terms.specs.Typed.{AreTyped, operand_kind, ObjectIsTyped}
 use Rattle.program_steps.specs.Temporaries.{Temporaries, no_temporaries, live, all_live}
 use Rattle.memory_steps.specs.State.{State}
-use Rattle.memory_slots.specs.Leaves.{leaves_of}
-use Rattle.memory_readings.specs.Shapes.{FileCells, Shape, kind_of}
-use Rattle.memory_readings.specs.Readings.{InScope, Texts, reading, body_reading}
-use Rattle.memory_readings.specs.Seen.{scope_at, is_closed_item, is_closed_term, ValueFits, ClaimFits, CellsFit}
+use Rattle.memory_words.specs.Leaves.{leaves_of}
+use Rattle.memory_words.specs.Shapes.{FileCells, Shape, kind_of}
+use Rattle.memory_words.specs.Readings.{InScope, Texts, reading, body_reading}
+use Rattle.memory_words.specs.Seen.{scope_at, is_closed_item, is_closed_term, ValueFits, ClaimFits, CellsFit}
 use Rattle.memory_words.specs.Points.{Point, in_block, uses_of}
 use Rattle.memory_words.specs.Words.{has_cell_of, has_home, in_scope_of, in_pass, rest_of}
 

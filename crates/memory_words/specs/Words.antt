@@ -31,14 +31,14 @@ use Rattle.value_terms.specs.Places.{way_items}
 use Rattle.walk_steps.specs.Forms.{Place as CheckPlace}
 use Rattle.memory_steps.specs.Forms.{Check}
 use Rattle.memory_steps.specs.Step.{Change, keeps, fresh, Step, skip, halt, seq, ask, know, set, change, choose, block, exit, scope, remember, made, ended}
-use Rattle.memory_slots.specs.Places.{Place, Sizes, value, offset, flag, result, result_offset, answer, answer_offset, temporary, temporary_offset, numbers, blocks, offsets, slot, changes_by}
-use Rattle.memory_slots.specs.Leaves as leaves
-use Rattle.memory_slots.specs.Leaves.{form, leaf_name}
+use Rattle.memory_words.specs.Places.{Place, Sizes, value, offset, flag, result, result_offset, answer, answer_offset, temporary, temporary_offset, numbers, blocks, offsets, slot, changes_by}
+use Rattle.memory_words.specs.Leaves as leaves
+use Rattle.memory_words.specs.Leaves.{form, leaf_name}
 use Rattle.program_steps.specs.Stops.{undefined_place, broken_place}
 use Rattle.program_steps.specs.Temporaries.{Temporaries, uses, live, all_live}
 use Rattle.goal_segments.specs.Told.{temps, with_names}
-use Rattle.memory_readings.specs.Shapes.{FileCells, Shape, sizes, kind_of, is_pointer_cell}
-use Rattle.memory_readings.specs.Readings.{Texts, Standpoint, InScope, reading, reading_at, body_reading, leaf, memory_leaf}
+use Rattle.memory_words.specs.Shapes.{FileCells, Shape, sizes, kind_of, is_pointer_cell}
+use Rattle.memory_words.specs.Readings.{Texts, Standpoint, InScope, reading, reading_at, body_reading, leaf, memory_leaf}
 use Rattle.memory_words.specs.Points.{Open, Force, of_function, of_loop, Point, remembered, in_block, with_scope, uses_of, left_by, all_open, at_present, later}
 use Rattle.memory_words.specs.Renewal.{of_regions, renewal}
 use Rattle.memory_words.specs.Sets.{claim_tree, variable_trees, cell_trees, since}

@@ -11,9 +11,9 @@ use Rattle.walk_steps.specs.Walk.{Goal}
 use Rattle.memory_steps.specs.State.{Base}
 use Rattle.memory_steps.specs.World.{World}
 use Rattle.memory_steps.specs.Walk.{then_walk, stays, followed, walk}
-use Rattle.memory_slots.specs.Places.{Sizes}
-use Rattle.memory_slots.specs.Leaves.{fill, is_closed, closed}
-use Rattle.memory_readings.specs.Seen.{is_closed_item}
+use Rattle.memory_words.specs.Places.{Sizes}
+use Rattle.memory_words.specs.Leaves.{fill, is_closed, closed}
+use Rattle.memory_words.specs.Seen.{is_closed_item}
 use Rattle.program_steps.specs.Stops.{undefined_place}
 use Rattle.memory_words.specs.Words.{items_step}
 use Rattle.memory_values.specs.OverSlots.{fill_item, fill_term}

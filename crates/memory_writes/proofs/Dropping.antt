@@ -3,7 +3,7 @@ use Rattle.std.proofs.Common.{◌≡◌, ◌<◌, ℕ, zero, suc, ◌+◌, Bool,
 use Rattle.qed_terms.specs.Meaning as sense
 use Rattle.program_steps.specs.Temporaries.{Temporaries}
 use Rattle.memory_steps.specs.State.{Base}
-use Rattle.memory_slots.specs.Places.{Sizes}
+use Rattle.memory_words.specs.Places.{Sizes}
 use Rattle.memory_words.specs.Words as words
 use Rattle.walk_live.specs.Bits.{bits}
 use Rattle.memory_walks.specs.Walks.{Held}

@@ -14,10 +14,10 @@ use Rattle.value_terms.specs.Places.{way_items}
 use Rattle.value_terms.specs.Words.{Item, word_of, words}
 use Rattle.walk_steps.specs.State.{at_or}
 use Rattle.memory_steps.specs.Forms.{Slots}
-use Rattle.memory_slots.specs.Places.{Place, Sizes, slot, answer, answer_offset}
-use Rattle.memory_slots.specs.Leaves.{leaf, memory_leaf, as_integer, as_memory, closed, fill, is_closed, or_false}
-use Rattle.memory_slots.proofs.Leaves.{leaf_closed, written_leaf, written_memory_leaf}
-use Rattle.memory_readings.specs.Seen.{is_closed_item, is_closed_term}
+use Rattle.memory_words.specs.Places.{Place, Sizes, slot, answer, answer_offset}
+use Rattle.memory_words.specs.Leaves.{leaf, memory_leaf, as_integer, as_memory, closed, fill, is_closed, or_false}
+use Rattle.memory_words.proofs.Leaves.{leaf_closed, written_leaf, written_memory_leaf}
+use Rattle.memory_words.specs.Seen.{is_closed_item, is_closed_term}
 use Rattle.memory_values.specs.declared.readings.Reading.{Reading}
 use Rattle.memory_values.specs.OverSlots.{fill_item, fill_term, leaf_reading}
 use Rattle.memory_values.specs.View as values

@@ -16,10 +16,10 @@ use Rattle.memory_steps.specs.Forms.{Slots}
 use Rattle.memory_steps.specs.Step as steps
 use Rattle.memory_steps.specs.Step.{Step}
 use Rattle.memory_steps.specs.World.{count_of}
-use Rattle.memory_slots.specs.Places.{Place, Sizes, slot, value, flag, changes_by}
-use Rattle.memory_slots.specs.Leaves.{leaf, fill}
-use Rattle.memory_slots.proofs.Leaves.{leaf_closed, written_leaf, written_table_leaf}
-use Rattle.memory_readings.specs.Shapes.{kind_of}
+use Rattle.memory_words.specs.Places.{Place, Sizes, slot, value, flag, changes_by}
+use Rattle.memory_words.specs.Leaves.{leaf, fill}
+use Rattle.memory_words.proofs.Leaves.{leaf_closed, written_leaf, written_table_leaf}
+use Rattle.memory_words.specs.Shapes.{kind_of}
 use Rattle.memory_words.specs.Renewal.{of_regions, renewal}
 use Rattle.memory_words.specs.Sets.{since}
 use Rattle.memory_words.specs.Words as words

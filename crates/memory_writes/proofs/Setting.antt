@@ -10,10 +10,10 @@ use Rattle.memory_steps.specs.State.{Base}
 use Rattle.memory_steps.specs.Step as steps
 use Rattle.memory_steps.specs.Step.{Step}
 use Rattle.memory_steps.specs.World.{World}
-use Rattle.memory_slots.specs.Places.{Place, Sizes, slot, answer}
-use Rattle.memory_slots.specs.Leaves as leaves
-use Rattle.memory_slots.specs.Leaves.{as_integer, as_memory, closed, fill}
-use Rattle.memory_slots.proofs.Leaves.{leaf_closed}
+use Rattle.memory_words.specs.Places.{Place, Sizes, slot, answer}
+use Rattle.memory_words.specs.Leaves as leaves
+use Rattle.memory_words.specs.Leaves.{as_integer, as_memory, closed, fill}
+use Rattle.memory_words.proofs.Leaves.{leaf_closed}
 use Rattle.memory_words.specs.Words as words
 use Rattle.memory_worlds.specs.Scopes.{saved_at}
 use Rattle.memory_walks.specs.Walks.{Held, Walks, states, now_set, now_remembers, now_forgets}

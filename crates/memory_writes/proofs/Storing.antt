@@ -15,11 +15,11 @@ use Rattle.memory_steps.specs.State.{Base}
 use Rattle.memory_steps.specs.Forms.{Slots}
 use Rattle.memory_steps.specs.Step as steps
 use Rattle.memory_steps.specs.World.{World}
-use Rattle.memory_slots.specs.Places.{Place, Sizes, slot, answer, answer_offset, blocks, offsets}
-use Rattle.memory_slots.specs.Leaves.{closed, fill, is_closed, leaf, memory_leaf, tables_in, terms_in}
-use Rattle.memory_slots.proofs.Leaves.{leaf_closed}
-use Rattle.memory_readings.specs.Readings.{reading_at}
-use Rattle.memory_readings.specs.Seen.{is_closed_term}
+use Rattle.memory_words.specs.Places.{Place, Sizes, slot, answer, answer_offset, blocks, offsets}
+use Rattle.memory_words.specs.Leaves.{closed, fill, is_closed, leaf, memory_leaf, tables_in, terms_in}
+use Rattle.memory_words.proofs.Leaves.{leaf_closed}
+use Rattle.memory_words.specs.Readings.{reading_at}
+use Rattle.memory_words.specs.Seen.{is_closed_term}
 use Rattle.memory_words.specs.Words as words
 use Rattle.memory_values.specs.OverSlots.{IsLevel, fill_term, slot_reading}
 use Rattle.memory_values.specs.Laws.{AllFilled}

@@ -23,8 +23,8 @@ use Rattle.walk_steps.specs.Walk.{Goal}
 use Rattle.program_steps.specs.Stops.{broken_place}
 use Rattle.memory_steps.specs.State.{Base}
 use Rattle.memory_steps.specs.Step.{Step}
-use Rattle.memory_readings.specs.Readings.{Texts}
-use Rattle.memory_readings.specs.Shapes.{kind_of}
+use Rattle.memory_words.specs.Readings.{Texts}
+use Rattle.memory_words.specs.Shapes.{kind_of}
 use Rattle.memory_words.specs.Points.{Point}
 use Rattle.memory_words.specs.Sets.{cell_trees, variable_trees}
 use Rattle.memory_words.specs.Words as words

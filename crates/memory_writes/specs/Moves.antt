@@ -4,8 +4,8 @@ use Rattle.walk_steps.specs.Walk.{Goal}
 use Rattle.memory_steps.specs.State.{Base}
 use Rattle.memory_steps.specs.Step.{Step}
 use Rattle.memory_walks.specs.Walks.{Held, Walks}
-use Rattle.memory_readings.specs.Shapes.{sizes}
-use Rattle.memory_slots.specs.Places.{Sizes}
+use Rattle.memory_words.specs.Shapes.{sizes}
+use Rattle.memory_words.specs.Places.{Sizes}
 use Rattle.memory_frames.specs.declared.frames.Frame.{Frame}
 use Rattle.memory_frames.specs.View.{facts_in, shape_in, Still}
 

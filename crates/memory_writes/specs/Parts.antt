@@ -6,8 +6,8 @@ use Rattle.qed_terms.specs.Meaning as sense
 use Rattle.qed_terms.specs.Tree.{num}
 use Rattle.value_terms.specs.Readings.{Term, block_term, offset_term}
 use Rattle.memory_steps.specs.Step.{Step, skip, seq, remember}
-use Rattle.memory_slots.specs.Places.{Place, Sizes, answer, answer_offset, temporary, temporary_offset}
-use Rattle.memory_slots.specs.Leaves as leaves
+use Rattle.memory_words.specs.Places.{Place, Sizes, answer, answer_offset, temporary, temporary_offset}
+use Rattle.memory_words.specs.Leaves as leaves
 use Rattle.memory_words.specs.Words.{set_number, set_memory, store_of, set_value, put_cell}
 
 module _ (m : sense.World) (z : Sizes) where

@@ -8,8 +8,8 @@ use Rattle.typed_prog.specs.declared.operators.Variable.TheVariants as variables
 use Rattle.qed_terms.specs.Meaning as sense
 use Rattle.c_runs.specs.Program as program
 use Rattle.memory_steps.specs.Step.{Step, seq, made}
-use Rattle.memory_slots.specs.Places.{Sizes, slot, value, offset, flag}
-use Rattle.memory_slots.specs.Leaves as leaves
+use Rattle.memory_words.specs.Places.{Sizes, slot, value, offset, flag}
+use Rattle.memory_words.specs.Leaves as leaves
 use Rattle.memory_words.specs.Points as points
 use Rattle.memory_words.specs.Renewal.{of_regions, renewal}
 use Rattle.memory_words.specs.Words.{has_cell_of, home_kinds}

@@ -9,8 +9,8 @@ use Rattle.typed_prog.specs.View.{view_value}
 use Rattle.qed_terms.specs.Tree.{num}
 use Rattle.value_terms.specs.Readings.{Term, as_number, as_pointer, Reading}
 use Rattle.value_terms.specs.Terms as terms
-use Rattle.memory_slots.specs.Places.{value, answer, answer_offset}
-use Rattle.memory_readings.specs.Readings.{leaf, reading_at, term_of_kind}
+use Rattle.memory_words.specs.Places.{value, answer, answer_offset}
+use Rattle.memory_words.specs.Readings.{leaf, reading_at, term_of_kind}
 use Rattle.memory_frames.specs.declared.frames.Frame.{Frame}
 use Rattle.memory_frames.specs.View.{cells_in, facts_in, shape_in, variables_in}
 use Rattle.memory_writes.specs.declared.sources.Source.{Source}

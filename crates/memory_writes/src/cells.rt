@@ -1,9 +1,9 @@
 // Cells that are written.
 ghost use Rattle.std.specs.Prelude.{◌≡◌, ◌∷◌, [], map, true, IfOk, OnOk};
 ghost use Rattle.memory_frames.specs.View.{bases_in};
-ghost use Rattle.memory_readings.specs.Seen.{is_closed_term};
-ghost use Rattle.memory_slots.specs.Leaves as leaves;
-ghost use Rattle.memory_slots.specs.Leaves.{fill};
+ghost use Rattle.memory_words.specs.Seen.{is_closed_term};
+ghost use Rattle.memory_words.specs.Leaves as leaves;
+ghost use Rattle.memory_words.specs.Leaves.{fill};
 ghost use Rattle.memory_values.specs.OverSlots.{fill_term};
 ghost use Rattle.memory_values.specs.View.{view_place, view_term};
 ghost use Rattle.memory_walks.specs.View.{view_state};

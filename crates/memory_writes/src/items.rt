@@ -1,8 +1,8 @@
 // What expressions ask for, and terms of their values.
 ghost use Rattle.std.specs.Prelude.{◌≡◌, List, map, true, IfOk, OnOk};
 ghost use Rattle.std.specs.List.{list_all};
-ghost use Rattle.memory_readings.specs.Seen.{is_closed_item};
-ghost use Rattle.memory_slots.specs.Places.{Sizes};
+ghost use Rattle.memory_words.specs.Seen.{is_closed_item};
+ghost use Rattle.memory_words.specs.Places.{Sizes};
 ghost use Rattle.memory_steps.specs.State.{Base};
 ghost use Rattle.memory_values.specs.OverSlots.{fill_item};
 ghost use Rattle.memory_values.specs.View.{view_item, view_items, view_term, view_terms};

@@ -2,7 +2,7 @@
 ghost use Rattle.std.specs.Prelude.{◌≡◌, slice_get};
 ghost use Rattle.c_runs.specs.Objects as objects;
 ghost use Rattle.core_trees.specs.View.{view_variable, view_variables};
-ghost use Rattle.memory_readings.specs.Shapes as shapes;
+ghost use Rattle.memory_words.specs.Shapes as shapes;
 ghost use Rattle.value_terms.specs.Readings as readings;
 
 use core_trees::FunctionVariable;

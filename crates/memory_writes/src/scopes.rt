@@ -3,9 +3,9 @@ ghost use Rattle.std.specs.Prelude.{◌≡◌, ◌∷◌, ◌++◌, [], map, suc
 ghost use Rattle.changed_memories.specs.Changed.{IsSorted, view_leave};
 ghost use Rattle.core_trees.specs.View.{view_variable};
 ghost use Rattle.memory_frames.specs.View.{bases_in, cells_in, facts_in, shape_in};
-ghost use Rattle.memory_slots.specs.Leaves as leaves;
-ghost use Rattle.memory_slots.specs.Leaves.{fill};
-ghost use Rattle.memory_slots.specs.Places as places;
+ghost use Rattle.memory_words.specs.Leaves as leaves;
+ghost use Rattle.memory_words.specs.Leaves.{fill};
+ghost use Rattle.memory_words.specs.Places as places;
 ghost use Rattle.memory_walks.specs.View.{view_state};
 ghost use Rattle.memory_walks.specs.Walks.{states};
 ghost use Rattle.memory_walks.specs.Ways.{now_put_back};

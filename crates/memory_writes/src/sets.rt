@@ -1,7 +1,7 @@
 // What is set: a place of a number or of a memory, and two places of a value.
 ghost use Rattle.std.specs.Prelude.{◌≡◌, OnOk};
 ghost use Rattle.memory_frames.specs.View.{bases_in, shape_in};
-ghost use Rattle.memory_slots.specs.Leaves.{closed, fill};
+ghost use Rattle.memory_words.specs.Leaves.{closed, fill};
 ghost use Rattle.memory_values.specs.View.{view_place};
 ghost use Rattle.memory_walks.specs.View.{view_state};
 ghost use Rattle.memory_walks.specs.Walks.{states};

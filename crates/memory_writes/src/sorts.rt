@@ -1,7 +1,7 @@
 // What a term stands for: what is of another sort counts as 0, and as the memory of zeros.
 ghost use Rattle.std.specs.Prelude.{◌≡◌};
-ghost use Rattle.memory_slots.specs.Leaves as spec;
-ghost use Rattle.memory_slots.specs.Leaves.{is_integer_head, is_memory_head};
+ghost use Rattle.memory_words.specs.Leaves as spec;
+ghost use Rattle.memory_words.specs.Leaves.{is_integer_head, is_memory_head};
 ghost use Rattle.qed_terms.specs.Tree.{head_of};
 ghost use Rattle.qed_terms.specs.View.{term_tree};
 ghost use Rattle.qed_terms.specs.declared.head.Head.TheVariants as head;

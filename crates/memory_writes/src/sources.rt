@@ -1,7 +1,7 @@
 // Values of a function, in the states of levels: expressions, where a way leads, and what is set.
 ghost use Rattle.std.specs.Prelude.{◌≡◌, map, IfOk};
-ghost use Rattle.memory_slots.specs.Leaves as leaves;
-ghost use Rattle.memory_slots.specs.Leaves.{closed, fill};
+ghost use Rattle.memory_words.specs.Leaves as leaves;
+ghost use Rattle.memory_words.specs.Leaves.{closed, fill};
 ghost use Rattle.memory_values.specs.OverSlots.{fill_term};
 ghost use Rattle.memory_values.specs.View.{view_place, view_term, view_terms};
 ghost use Rattle.memory_walks.specs.View.{view_state};

@@ -8,7 +8,7 @@ use Rattle.acsl_expand.specs.Expansion.{Definition}
 use Rattle.typed_unit.specs.Unit as u
 use Rattle.c_runs.specs.Program.{Function, Program}
 use Rattle.core_checks.specs.Tree.{Steps}
-use Rattle.memory_readings.specs.Shapes.{FileCells}
+use Rattle.memory_words.specs.Shapes.{FileCells}
 use Rattle.program_cells.specs.Parts.{Part, blocks, of_kind, is_blocks, is_of_kind, is_part_of, cells_among, AreKnown}
 use Rattle.program_cells.specs.Trees.{tree_parts}
 use Rattle.program_cells.specs.Programs.{variables_parts, function_parts, function_parts_if, declared_in, declared_alone, bodies_parts, definition_parts, definitions_parts, program_parts, program_cells}

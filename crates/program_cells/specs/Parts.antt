@@ -9,7 +9,7 @@ use Rattle.typed_prog.specs.declared.types.Base.TheVariants as base
 use Rattle.typed_prog.specs.declared.types.CoreType.{CoreType}
 use Rattle.c_runs.specs.Program.{Facts}
 use Rattle.c_runs.specs.Claims.{struct_cells}
-use Rattle.memory_readings.specs.Shapes.{FileCells}
+use Rattle.memory_words.specs.Shapes.{FileCells}
 
 pub data Part : Type 0 where
   blocks : Part

@@ -19,7 +19,7 @@ use Rattle.c_runs.specs.Objects.{is_plain_in, cell_of}
 use Rattle.core_checks.specs.Tree as core
 use Rattle.core_checks.specs.Tree.{Goal, Steps}
 use Rattle.value_terms.specs.Typed.{kind_given}
-use Rattle.memory_readings.specs.Shapes.{FileCells, kind_of}
+use Rattle.memory_words.specs.Shapes.{FileCells, kind_of}
 use Rattle.program_cells.specs.Parts.{Part, blocks, of_kind, type_parts, cells_among}
 use Rattle.program_cells.specs.Trees.{Declared, tree_parts, list_parts}
 

@@ -4,7 +4,7 @@ use Rattle.std.specs.List.{list_any}
 use Rattle.std.specs.Option.{option_map}
 use Rattle.wp_base.specs.declared.kinds.CellKind.{CellKind}
 use Rattle.wp_base.specs.Kinds.{cell_place}
-use Rattle.memory_readings.specs.Shapes.{FileCells}
+use Rattle.memory_words.specs.Shapes.{FileCells}
 use Rattle.program_cells.specs.declared.cells.Cells.{Cells}
 use Rattle.program_cells.specs.declared.types.Outline as memory
 use Rattle.program_cells.specs.declared.declared.Told as memory_told

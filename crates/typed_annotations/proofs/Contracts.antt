@@ -18,15 +18,15 @@ use Rattle.core_checks.specs.Tree.{Steps}
 use Rattle.acsl_well_typed.specs.WellTyped.{Known}
 use Rattle.acsl_well_typed.specs.Definitions.{known_with}
 use Rattle.annotations_encoded.specs.Sights.{has_block, unknown, Sights}
-use Rattle.memory_readings.specs.Shapes.{FileCells, Shape, kind_of}
-use Rattle.memory_readings.specs.Readings.{InScope, Texts, Standpoint, body_reading, entry_reading, return_reading}
-use Rattle.memory_readings.specs.Seen.{ClaimFits, MeasureFits}
+use Rattle.memory_words.specs.Shapes.{FileCells, Shape, kind_of}
+use Rattle.memory_words.specs.Readings.{InScope, Texts, Standpoint, body_reading, entry_reading, return_reading}
+use Rattle.memory_words.specs.Seen.{ClaimFits, MeasureFits}
 use Rattle.memory_words.specs.Points.{Point}
 use Rattle.memory_words.specs.Words.{entered_loop}
 use Rattle.memory_words.specs.Typed.{AllOf, is_plain_variable, RegionFits, SetFits}
-use Rattle.memory_loops.specs.Fits.{at_levels, has_level, IsInSight, SetRegion, SetRegions, ClauseFits}
+use Rattle.memory_calls.specs.LoopFits.{at_levels, has_level, IsInSight, SetRegion, SetRegions, ClauseFits}
 use Rattle.memory_calls.specs.Callee.{entered_at, returned_from}
-use Rattle.memory_calls.specs.Fits.{no_local, IfMeasured, CalleeBehaviorFits}
+use Rattle.memory_calls.specs.CallFits.{no_local, IfMeasured, CalleeBehaviorFits}
 use Rattle.typed_annotations.specs.Sights.{kind_site, any_site, file_site, local_site, param_site, body_site, contract_site, may_name, of_file, params_of, body_sights, entry_sights, return_sights}
 use Rattle.typed_annotations.specs.Claims.{TextsFit, IsClaim, IsRegionIn}
 use Rattle.typed_annotations.specs.Laws.{IsSeen}

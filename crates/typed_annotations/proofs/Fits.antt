@@ -11,9 +11,9 @@ use Rattle.acsl_well_typed.specs.Definitions.{known_with}
 use Rattle.annotations_encoded.specs.Sights.{Sights}
 use Rattle.annotations_encoded.specs.Serving.{serves}
 use Rattle.annotations_encoded.proofs.Annotations.{annotations_are_encoded}
-use Rattle.memory_slots.specs.Leaves.{leaves_of}
-use Rattle.memory_readings.specs.Readings.{Texts}
-use Rattle.memory_readings.specs.Seen.{ClaimFits, MeasureFits}
+use Rattle.memory_words.specs.Leaves.{leaves_of}
+use Rattle.memory_words.specs.Readings.{Texts}
+use Rattle.memory_words.specs.Seen.{ClaimFits, MeasureFits}
 use Rattle.leaf_annotations.proofs.Formulas.{formulas_mean}
 use Rattle.leaf_annotations.proofs.ClosedHeads.{formula_is_closed, number_is_closed}
 use Rattle.typed_annotations.specs.Claims.{Reads}

@@ -14,12 +14,12 @@ use Rattle.value_terms.specs.Readings.{Term, as_number, as_test, as_pointer, num
 use Rattle.value_terms.specs.Terms.{terms_of}
 use Rattle.value_terms.proofs.FittingWords.{all_is_well_formed}
 use Rattle.acsl_encode.proofs.Sorts.{int_means}
-use Rattle.memory_slots.specs.Places.{Place, value, offset, flag, temporary, temporary_offset, numbers, blocks, offsets, slot}
-use Rattle.memory_slots.specs.Leaves.{after_as, leaf_name, table_leaf}
-use Rattle.memory_readings.specs.Shapes.{FileCells, Shape, sizes, kind_of}
-use Rattle.memory_readings.specs.Readings.{term_of_kind, leaf, memory_leaf, variable_term, reading_at}
-use Rattle.memory_readings.specs.Seen.{is_closed_term}
-use Rattle.memory_stores.proofs.Closed.{terms_are_closed}
+use Rattle.memory_words.specs.Places.{Place, value, offset, flag, temporary, temporary_offset, numbers, blocks, offsets, slot}
+use Rattle.memory_words.specs.Leaves.{after_as, leaf_name, table_leaf}
+use Rattle.memory_words.specs.Shapes.{FileCells, Shape, sizes, kind_of}
+use Rattle.memory_words.specs.Readings.{term_of_kind, leaf, memory_leaf, variable_term, reading_at}
+use Rattle.memory_words.specs.Seen.{is_closed_term}
+use Rattle.memory_statements.proofs.Closed.{terms_are_closed}
 use Rattle.leaf_annotations.specs.Sorted.{IsNumber}
 
 -- ---- names

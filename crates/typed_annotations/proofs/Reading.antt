@@ -11,10 +11,10 @@ use Rattle.acsl_encode.specs.Calls.{CallsStand}
 use Rattle.acsl_truth.specs.Truth.{calls_of}
 use Rattle.acsl_well_typed.specs.WellTyped.{What}
 use Rattle.annotations_encoded.specs.Sights.{Sight, sight_of, value_given, sights_of}
-use Rattle.memory_slots.specs.Places.{result, result_offset, answer, answer_offset}
-use Rattle.memory_readings.specs.Shapes.{FileCells, Shape}
-use Rattle.memory_readings.specs.Readings.{InScope, Texts, Standpoint, terms_of_kind, leaf, seen_in_body, seen_by_contract, seen_at_loop, common_of, body_reading, entry_reading, return_reading}
-use Rattle.memory_loops.specs.Fits.{has_level}
+use Rattle.memory_words.specs.Places.{result, result_offset, answer, answer_offset}
+use Rattle.memory_words.specs.Shapes.{FileCells, Shape}
+use Rattle.memory_words.specs.Readings.{InScope, Texts, Standpoint, terms_of_kind, leaf, seen_in_body, seen_by_contract, seen_at_loop, common_of, body_reading, entry_reading, return_reading}
+use Rattle.memory_calls.specs.LoopFits.{has_level}
 use Rattle.memory_calls.specs.Callee.{callee_seen, entered_at, returned_from}
 use Rattle.leaf_annotations.specs.Closed.{TermsClosed, SeenClosed, ReadingClosed}
 use Rattle.leaf_annotations.specs.Sorted.{TermsSorted, SeenSorted, ReadingSorted}

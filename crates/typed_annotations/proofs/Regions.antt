@@ -26,16 +26,16 @@ use Rattle.annotations_encoded.specs.Shapes.{shape, shape_at, HasShape}
 use Rattle.annotations_encoded.specs.Serving.{cells_of, is_region, serves}
 use Rattle.annotations_encoded.proofs.Annotations.{annotations_are_encoded, regions_are_nodes}
 use Rattle.memory_steps.specs.State.{State}
-use Rattle.memory_slots.specs.Leaves.{leaves_of}
-use Rattle.memory_readings.specs.Shapes.{FileCells, Shape}
-use Rattle.memory_readings.specs.Readings.{InScope, Texts}
-use Rattle.memory_readings.specs.Seen.{CellsFit}
+use Rattle.memory_words.specs.Leaves.{leaves_of}
+use Rattle.memory_words.specs.Shapes.{FileCells, Shape}
+use Rattle.memory_words.specs.Readings.{InScope, Texts}
+use Rattle.memory_words.specs.Seen.{CellsFit}
 use Rattle.memory_words.specs.Typed as asked
 use Rattle.memory_words.specs.Typed.{is_plain_variable, is_scalar, RegionFits}
-use Rattle.memory_stores.specs.Regions.{region, EndsFit}
-use Rattle.memory_loops.specs.Sets.{region_variable}
-use Rattle.memory_loops.specs.Fits as loops
-use Rattle.memory_loops.specs.Fits.{content_of, IsInSight, SetRegion}
+use Rattle.memory_statements.specs.Regions.{region, EndsFit}
+use Rattle.memory_calls.specs.LoopSets.{region_variable}
+use Rattle.memory_calls.specs.LoopFits as loops
+use Rattle.memory_calls.specs.LoopFits.{content_of, IsInSight, SetRegion}
 use Rattle.leaf_annotations.specs.Closed.{TermsClosed}
 use Rattle.leaf_annotations.proofs.Formulas.{terms_mean, formulas_mean}
 use Rattle.leaf_annotations.proofs.ClosedHeads.{terms_are_closed}

@@ -15,14 +15,14 @@ use Rattle.acsl_encode.specs.Readings.{Slot, home, absent, Pointer, at}
 use Rattle.acsl_encode.specs.Meaning.{Holds}
 use Rattle.acsl_encode.specs.Binders.{Spelled, spelled_at, bound_before, numbered}
 use Rattle.annotations_encoded.specs.Sights.{Site, has_block, unknown, site_of, value_given, has_memory, sight_of}
-use Rattle.memory_slots.specs.Places.{Place, value, offset, numbers, blocks, offsets}
-use Rattle.memory_slots.specs.Leaves.{table_leaf, is_marked}
-use Rattle.memory_slots.proofs.Leaves.{leaf_closed}
-use Rattle.memory_readings.specs.Shapes.{FileCells, Shape, sizes, kind_of}
-use Rattle.memory_readings.specs.Readings.{InScope, slot_of_kind, slot_of_any, terms_of_kind, leaf, memory_leaf, global_slot, local_slot, param_slot, body_slot, contract_slot, if_there, seen_by}
+use Rattle.memory_words.specs.Places.{Place, value, offset, numbers, blocks, offsets}
+use Rattle.memory_words.specs.Leaves.{table_leaf, is_marked}
+use Rattle.memory_words.proofs.Leaves.{leaf_closed}
+use Rattle.memory_words.specs.Shapes.{FileCells, Shape, sizes, kind_of}
+use Rattle.memory_words.specs.Readings.{InScope, slot_of_kind, slot_of_any, terms_of_kind, leaf, memory_leaf, global_slot, local_slot, param_slot, body_slot, contract_slot, if_there, seen_by}
 use Rattle.memory_calls.specs.Callee as callee
 use Rattle.memory_calls.specs.Callee.{argument_slot, callee_slot}
-use Rattle.memory_stores.proofs.Closed.{number_closed, block_closed, offset_closed}
+use Rattle.memory_statements.proofs.Closed.{number_closed, block_closed, offset_closed}
 use Rattle.leaf_annotations.specs.Closed.{IsClosed, TermsClosed, SlotClosed, SeenClosed}
 use Rattle.leaf_annotations.specs.Sorted.{IsCells, TermsSorted, SlotSorted, SeenSorted}
 use Rattle.typed_annotations.specs.Sights.{kind_site, any_site, file_site, local_site, param_site, body_site, contract_site, params_of, sight_by, result_given}

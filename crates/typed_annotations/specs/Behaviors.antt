@@ -11,14 +11,14 @@ use Rattle.core_checks.specs.Tree.{Steps}
 use Rattle.acsl_well_typed.specs.WellTyped.{Known}
 use Rattle.acsl_well_typed.specs.Definitions.{known_with}
 use Rattle.annotations_encoded.specs.Sights.{Sights}
-use Rattle.memory_readings.specs.Shapes.{FileCells, Shape}
-use Rattle.memory_readings.specs.Readings.{InScope, Texts, Standpoint, body_reading, entry_reading, return_reading}
-use Rattle.memory_readings.specs.Seen.{ClaimFits, MeasureFits}
+use Rattle.memory_words.specs.Shapes.{FileCells, Shape}
+use Rattle.memory_words.specs.Readings.{InScope, Texts, Standpoint, body_reading, entry_reading, return_reading}
+use Rattle.memory_words.specs.Seen.{ClaimFits, MeasureFits}
 use Rattle.memory_words.specs.Points.{Point, of_function, of_loop}
 use Rattle.memory_words.specs.Words.{entered_loop}
 use Rattle.memory_words.specs.Typed.{AllOf, SetFits}
-use Rattle.memory_loops.specs.Fits.{at_levels, has_level, SetRegions, ForceFits}
-use Rattle.memory_calls.specs.Fits.{CalleeFits}
+use Rattle.memory_calls.specs.LoopFits.{at_levels, has_level, SetRegions, ForceFits}
+use Rattle.memory_calls.specs.CallFits.{CalleeFits}
 use Rattle.typed_annotations.specs.Sights.{may_name, of_file, params_of, body_sights, entry_sights, return_sights}
 use Rattle.typed_annotations.specs.Claims.{TextsFit, IsClaim, IsRegionIn}
 

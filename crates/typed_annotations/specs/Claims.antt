@@ -13,11 +13,11 @@ use Rattle.acsl_encode.specs.Calls.{CallsStand}
 use Rattle.acsl_well_typed.specs.WellTyped.{an_integer, a_region, Known, what_of}
 use Rattle.annotations_encoded.specs.Sights.{Sights, sights_of}
 use Rattle.annotations_encoded.specs.Serving.{serves}
-use Rattle.memory_readings.specs.Shapes.{FileCells, Shape}
-use Rattle.memory_readings.specs.Readings.{Texts, common_of}
+use Rattle.memory_words.specs.Shapes.{FileCells, Shape}
+use Rattle.memory_words.specs.Readings.{Texts, common_of}
 use Rattle.leaf_annotations.specs.Laws.{IsOverLeaves}
-use Rattle.memory_stores.specs.Regions.{region}
-use Rattle.memory_loops.specs.Fits.{content_of}
+use Rattle.memory_statements.specs.Regions.{region}
+use Rattle.memory_calls.specs.LoopFits.{content_of}
 
 -- what isn't known of a program without its texts: no name of a binder as it is spelled has a `!`, and logic functions have the values of their definitions
 pub record TextsFit (m : sense.World) (p : Facts) (s : Shape) (cells : FileCells) (texts : Texts) : Type 0 where

@@ -11,11 +11,11 @@ use Rattle.core_checks.specs.Tree.{Steps}
 use Rattle.acsl_encode.specs.Readings.{Reading}
 use Rattle.acsl_well_typed.specs.Definitions.{known_with}
 use Rattle.annotations_encoded.specs.Sights.{has_block, Sights}
-use Rattle.memory_readings.specs.Shapes.{FileCells, Shape}
-use Rattle.memory_readings.specs.Readings.{InScope, Texts, Standpoint, body_reading, entry_reading, return_reading}
-use Rattle.memory_readings.specs.Seen.{ClaimFits, MeasureFits}
+use Rattle.memory_words.specs.Shapes.{FileCells, Shape}
+use Rattle.memory_words.specs.Readings.{InScope, Texts, Standpoint, body_reading, entry_reading, return_reading}
+use Rattle.memory_words.specs.Seen.{ClaimFits, MeasureFits}
 use Rattle.memory_words.specs.Typed.{is_plain_variable, RegionFits}
-use Rattle.memory_loops.specs.Fits.{has_level, IsInSight, SetRegion}
+use Rattle.memory_calls.specs.LoopFits.{has_level, IsInSight, SetRegion}
 use Rattle.memory_calls.specs.Callee.{entered_at, returned_from}
 use Rattle.typed_annotations.specs.Sights.{params_of, body_sights, entry_sights, return_sights}
 use Rattle.typed_annotations.specs.Claims.{TextsFit, IsClaim, IsRegionIn, Reads}

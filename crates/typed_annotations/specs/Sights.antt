@@ -10,8 +10,8 @@ use Rattle.c_runs.specs.Claims.{struct_cells}
 use Rattle.c_runs.specs.Objects.{is_plain_in}
 use Rattle.acsl_well_typed.specs.WellTyped.{What, an_integer, a_pointer}
 use Rattle.annotations_encoded.specs.Sights.{Site, holds_integer, holds_pointer, has_block, unknown, Sight, Sights}
-use Rattle.memory_readings.specs.Shapes.{FileCells, kind_of}
-use Rattle.memory_readings.specs.Readings.{InScope, Texts}
+use Rattle.memory_words.specs.Shapes.{FileCells, kind_of}
+use Rattle.memory_words.specs.Readings.{InScope, Texts}
 
 -- ---- variables
 

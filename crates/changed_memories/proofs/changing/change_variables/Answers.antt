@@ -1,8 +1,8 @@
 use Rattle.memory_frames.specs.View.{bases_in, cells_in, facts_in, shape_in}
-use Rattle.memory_havoc.specs.Havoc.{change_of}
-use Rattle.memory_readings.specs.Shapes.{sizes}
-use Rattle.memory_slots.specs.Leaves.{fill}
-use Rattle.memory_slots.specs.Places.{changes_by}
+use Rattle.memory_calls.specs.Havoc.{change_of}
+use Rattle.memory_words.specs.Shapes.{sizes}
+use Rattle.memory_words.specs.Leaves.{fill}
+use Rattle.memory_words.specs.Places.{changes_by}
 use Rattle.memory_walks.specs.View.{view_state}
 use Rattle.memory_walks.specs.Walks.{states}
 use Rattle.memory_words.specs.Sets.{since}

@@ -2,8 +2,8 @@ use Rattle.std.proofs.Common.{rules, ◌≡◌, ◌+◌, ◌++◌, false, length
 use Rattle.core_trees.specs.View.{view_variables}
 use Rattle.qed_terms.specs.View.{term_tree}
 use Rattle.memory_frames.specs.View.{facts_in, shape_in}
-use Rattle.memory_readings.specs.Shapes.{sizes}
-use Rattle.memory_slots.specs.Places.{Sizes, double, changes_by}
+use Rattle.memory_words.specs.Shapes.{sizes}
+use Rattle.memory_words.specs.Places.{Sizes, double, changes_by}
 use Rattle.memory_worlds.specs.Changes.{view_change}
 use Rattle.changed_memories.specs.Flags.{flag_at}
 use Rattle.changed_memories.specs.Written.{three_to, value_of, offset_of, flag_of, havoc_by}

@@ -1,6 +1,6 @@
 use Rattle.std.proofs.Common.{map, ap, ◌∙◌}
 use Rattle.qed_terms.specs.View.{term_tree}
-use Rattle.memory_slots.specs.Places.{numbers}
+use Rattle.memory_words.specs.Places.{numbers}
 use Rattle.memory_values.specs.OverSlots.{memory_at}
 use Rattle.memory_values.specs.View.{view_sizes}
 use Rattle.changed_memories.specs.Changed.{view_leave}

@@ -2,9 +2,9 @@ use Rattle.std.proofs.Common.{pos, refl}
 use Rattle.qed_terms.specs.Tree.{num}
 use Rattle.walk_steps.specs.State.{at_or}
 use Rattle.memory_frames.specs.View.{bases_in, cells_in, facts_in, shape_in}
-use Rattle.memory_readings.specs.Shapes.{sizes}
-use Rattle.memory_slots.specs.Leaves.{as_table, tables_in}
-use Rattle.memory_slots.specs.Places.{changes_by}
+use Rattle.memory_words.specs.Shapes.{sizes}
+use Rattle.memory_words.specs.Leaves.{as_table, tables_in}
+use Rattle.memory_words.specs.Places.{changes_by}
 use Rattle.memory_walks.specs.View.{view_state}
 use Rattle.memory_walks.specs.Walks.{states}
 use Rattle.memory_words.specs.Renewal.{first_change}

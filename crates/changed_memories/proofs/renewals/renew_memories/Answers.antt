@@ -1,6 +1,6 @@
 use Rattle.memory_frames.specs.View.{facts_in, shape_in}
-use Rattle.memory_readings.specs.Shapes.{sizes}
-use Rattle.memory_slots.specs.Places.{changes_by}
+use Rattle.memory_words.specs.Shapes.{sizes}
+use Rattle.memory_words.specs.Places.{changes_by}
 use Rattle.memory_steps.specs.Step as step
 use Rattle.memory_walks.specs.View.{view_state}
 use Rattle.memory_words.specs.Renewal.{first_change, second_change}

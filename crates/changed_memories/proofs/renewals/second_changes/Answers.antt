@@ -1,7 +1,7 @@
 use Rattle.std.proofs.Common.{ap, ◌∙◌, map}
 use Rattle.wp_base.specs.declared.kinds.CellKind.TheVariants as cell
 use Rattle.qed_terms.specs.View.{term_tree}
-use Rattle.memory_slots.specs.Places.{blocks, offsets}
+use Rattle.memory_words.specs.Places.{blocks, offsets}
 use Rattle.memory_values.specs.OverSlots.{memory_at}
 use Rattle.memory_values.specs.View.{view_sizes}
 use Rattle.changed_memories.specs.Changed.{view_leave}

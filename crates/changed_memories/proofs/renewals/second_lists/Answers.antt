@@ -1,5 +1,5 @@
 use Rattle.std.proofs.Common.{◌∙◌}
-use Rattle.memory_slots.specs.Places.{blocks, offsets, changes_by}
+use Rattle.memory_words.specs.Places.{blocks, offsets, changes_by}
 use Rattle.memory_values.specs.OverSlots.{memory_at}
 use Rattle.wp_base.specs.declared.kinds.CellKind.TheVariants as cell
 use Rattle.changed_memories.specs.Changed.{view_leave}

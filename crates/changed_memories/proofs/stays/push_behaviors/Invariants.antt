@@ -7,8 +7,8 @@ use Rattle.qed_terms.specs.Tree.{Tree}
 use Rattle.qed_terms.specs.View.{formula_tree, term_tree}
 use Rattle.memory_frames.specs.Labelled.{Labelled}
 use Rattle.memory_frames.specs.View.{cells_in, facts_in, shape_in}
-use Rattle.memory_havoc.specs.Havoc.{Havoc}
-use Rattle.memory_slots.specs.Leaves.{fill}
+use Rattle.memory_calls.specs.Havoc.{Havoc}
+use Rattle.memory_words.specs.Leaves.{fill}
 use Rattle.memory_walks.specs.View.{view_state}
 use Rattle.memory_walks.specs.Walks.{states}
 use Rattle.memory_words.specs.Sets.{assumed_tree}

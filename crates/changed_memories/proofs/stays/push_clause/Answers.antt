@@ -5,7 +5,7 @@ use Rattle.qed_terms.specs.View.{formula_tree}
 use Rattle.memory_frames.specs.View.{cells_in, facts_in, shape_in}
 use Rattle.memory_walks.specs.View.{view_state}
 use Rattle.memory_walks.specs.Walks.{states}
-use Rattle.memory_slots.specs.Leaves.{fill}
+use Rattle.memory_words.specs.Leaves.{fill}
 use Rattle.memory_words.specs.Regions.{regions_in}
 use Rattle.memory_words.specs.Renewal.{of_regions}
 use Rattle.memory_words.specs.Sets.{assumed_tree}

@@ -3,8 +3,8 @@ use Rattle.qed_terms.specs.View.{formula_tree}
 use Rattle.memory_frames.specs.View.{cells_in, facts_in, shape_in}
 use Rattle.memory_walks.specs.View.{view_state}
 use Rattle.memory_walks.specs.Walks.{states}
-use Rattle.memory_havoc.specs.Stays.{same_places}
-use Rattle.memory_slots.specs.Leaves.{fill}
+use Rattle.memory_calls.specs.Stays.{same_places}
+use Rattle.memory_words.specs.Leaves.{fill}
 use Rattle.changed_memories.proofs.Stayed.{all_kept}
 use Rattle.changed_memories.proofs.stays.push_if.Goals as goal
 

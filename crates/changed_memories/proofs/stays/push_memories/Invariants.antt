@@ -1,7 +1,7 @@
 use Rattle.std.proofs.Common.{◌≡◌, ◌++◌, drop, map}
 use Rattle.qed_terms.specs.View.{formula_tree}
 use Rattle.memory_frames.specs.View.{cells_in, facts_in, shape_in}
-use Rattle.memory_readings.specs.Readings.{Texts}
+use Rattle.memory_words.specs.Readings.{Texts}
 use Rattle.memory_walks.specs.View.{view_state}
 use Rattle.memory_walks.specs.Walks.{states}
 use Rattle.memory_words.specs.Renewal as words

@@ -4,8 +4,8 @@ use Rattle.typed_prog.specs.declared.operators.Variable.TheVariants as variables
 use Rattle.acsl_trees.specs.Tree.{view_trees}
 use Rattle.qed_terms.specs.View.{formula_tree}
 use Rattle.memory_frames.specs.View.{cells_in, facts_in, shape_in}
-use Rattle.memory_havoc.specs.Havoc.{Havoc}
-use Rattle.memory_readings.specs.Readings.{Texts}
+use Rattle.memory_calls.specs.Havoc.{Havoc}
+use Rattle.memory_words.specs.Readings.{Texts}
 use Rattle.memory_walks.specs.View.{view_state}
 use Rattle.memory_walks.specs.Walks.{states}
 use Rattle.changed_memories.specs.Flags.{flag_at}

@@ -5,8 +5,8 @@ use Rattle.qed_terms.specs.View.{formula_tree}
 use Rattle.memory_frames.specs.View.{cells_in, facts_in, shape_in}
 use Rattle.memory_walks.specs.View.{view_state}
 use Rattle.memory_walks.specs.Walks.{states}
-use Rattle.memory_havoc.specs.Stays.{all_stay}
-use Rattle.memory_slots.specs.Leaves.{fill}
+use Rattle.memory_calls.specs.Stays.{all_stay}
+use Rattle.memory_words.specs.Leaves.{fill}
 use Rattle.memory_words.specs.Sets.{assumed_tree}
 use Rattle.changed_memories.proofs.stays.stays_by.Goals as goal
 

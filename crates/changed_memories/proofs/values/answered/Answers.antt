@@ -1,6 +1,6 @@
 use Rattle.std.proofs.Common.{true, ap, ◌∙◌}
 use Rattle.memory_frames.specs.View.{facts_in}
-use Rattle.memory_slots.specs.Places.{changes_by}
+use Rattle.memory_words.specs.Places.{changes_by}
 use Rattle.changed_memories.specs.Written.{value_change, answer_by}
 use Rattle.changed_memories.proofs.values.answered.Goals as goal
 

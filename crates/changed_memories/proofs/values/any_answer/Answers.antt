@@ -1,5 +1,5 @@
 use Rattle.std.proofs.Common.{true, sym, subst}
-use Rattle.memory_calls.specs.Words.{answer_step}
+use Rattle.memory_calls.specs.CallWords.{answer_step}
 use Rattle.memory_frames.specs.View.{Still, bases_in, cells_in, facts_in, shape_in}
 use Rattle.memory_walks.proofs.Walking.{skip_walks}
 use Rattle.memory_walks.specs.View.{view_state}

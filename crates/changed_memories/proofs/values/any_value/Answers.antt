@@ -1,7 +1,7 @@
 use Rattle.std.proofs.Common.{ap, ◌∙◌}
 use Rattle.memory_frames.specs.View.{bases_in, cells_in, facts_in, shape_in}
-use Rattle.memory_readings.specs.Shapes.{sizes}
-use Rattle.memory_slots.specs.Places.{changes_by}
+use Rattle.memory_words.specs.Shapes.{sizes}
+use Rattle.memory_words.specs.Places.{changes_by}
 use Rattle.memory_walks.specs.View.{view_state}
 use Rattle.memory_walks.specs.Walks.{states}
 use Rattle.memory_words.specs.Words.{any_change}

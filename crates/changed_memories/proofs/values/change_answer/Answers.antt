@@ -1,11 +1,11 @@
 use Rattle.memory_frames.specs.View.{bases_in, cells_in, facts_in, shape_in}
-use Rattle.memory_readings.specs.Shapes.{sizes}
-use Rattle.memory_slots.specs.Leaves.{fill}
-use Rattle.memory_slots.specs.Places.{changes_by}
+use Rattle.memory_words.specs.Shapes.{sizes}
+use Rattle.memory_words.specs.Leaves.{fill}
+use Rattle.memory_words.specs.Places.{changes_by}
 use Rattle.memory_walks.specs.View.{view_state}
 use Rattle.memory_walks.specs.Walks.{states}
 use Rattle.memory_words.specs.Sets.{since}
-use Rattle.memory_calls.specs.Words.{answer_change}
+use Rattle.memory_calls.specs.CallWords.{answer_change}
 use Rattle.changed_memories.proofs.Answering.{count_filled, answer_made, answer_all}
 use Rattle.changed_memories.proofs.values.change_answer.Goals as goal
 

@@ -1,7 +1,7 @@
 use Rattle.std.proofs.Common.{Bool, map, refl, ap, ◌∙◌}
 use Rattle.checked_trees.specs.View.{view_checked_function}
-use Rattle.memory_readings.specs.Shapes.{sizes}
-use Rattle.memory_slots.specs.Leaves.{fill}
+use Rattle.memory_words.specs.Shapes.{sizes}
+use Rattle.memory_words.specs.Leaves.{fill}
 use Rattle.memory_walks.specs.View.{view_state}
 use Rattle.memory_walks.specs.Walks.{states}
 use Rattle.memory_frames.specs.View.{bases_in, cells_in, facts_in, shape_in, view_point}

@@ -2,17 +2,17 @@ use Rattle.std.proofs.Common.{rules, ◌≡◌, map, refl, ap, ◌∙◌}
 use Rattle.c_runs.specs.Program as program
 use Rattle.checked_trees.specs.View.{view_checked_function}
 use Rattle.program_trees.specs.View.{view_behavior}
-use Rattle.memory_slots.specs.Leaves.{fill}
+use Rattle.memory_words.specs.Leaves.{fill}
 use Rattle.memory_walks.specs.View.{view_state}
 use Rattle.memory_walks.specs.Walks.{states}
 use Rattle.memory_words.specs.Sets.{assumed_tree, since}
-use Rattle.memory_havoc.specs.Stays.{all_stay}
+use Rattle.memory_calls.specs.Stays.{all_stay}
 use Rattle.memory_frames.specs.View.{bases_in, cells_in, facts_in, shape_in}
 use Rattle.changed_memories.specs.Flags.{flag_at, flag_of}
 use Rattle.changed_memories.proofs.ClosedStays.{stays_closed}
 use Rattle.memory_calls.specs.Callee.{entered_at}
-use Rattle.memory_calls.specs.Sets.{call_havoc}
-use Rattle.memory_calls.specs.Words.{stay_trees}
+use Rattle.memory_calls.specs.CallSets.{call_havoc}
+use Rattle.memory_calls.specs.CallWords.{stay_trees}
 use Rattle.memory_call_walks.proofs.Closed.{assumed_closed, regions_closed}
 use Rattle.memory_call_walks.proofs.behind.know_stays.Goals as goal
 

@@ -7,7 +7,7 @@ use Rattle.memory_frames.specs.View.{bases_in, cells_in, facts_in, shape_in, vie
 use Rattle.memory_call_walks.specs.View.{level_of, operands_over}
 use Rattle.memory_steps.specs.Forms.{Slots}
 use Rattle.memory_steps.specs.Step.{remember, scope}
-use Rattle.memory_slots.specs.Places.{answer, answer_offset, slot}
+use Rattle.memory_words.specs.Places.{answer, answer_offset, slot}
 use Rattle.memory_call_walks.specs.Known.{known_word}
 use Rattle.memory_call_walks.proofs.Calling.{remembers}
 use Rattle.memory_call_walks.proofs.calls.walk_behind.Goals as goal

@@ -7,7 +7,7 @@ use Rattle.memory_walks.specs.View.{view_state}
 use Rattle.memory_walks.specs.Walks.{Walks}
 use Rattle.memory_walks.proofs.Walking.{halt_walks}
 use Rattle.memory_frames.specs.View.{bases_in, cells_in, facts_in, shape_in, view_point}
-use Rattle.memory_calls.specs.Words.{call_by}
+use Rattle.memory_calls.specs.CallWords.{call_by}
 use Rattle.memory_call_walks.specs.View.{functions_in}
 use Rattle.memory_call_walks.proofs.calls.walk_call.Goals as goal
 

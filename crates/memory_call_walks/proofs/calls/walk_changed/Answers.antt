@@ -5,7 +5,7 @@ use Rattle.checked_trees.specs.View.{view_checked_function}
 use Rattle.program_trees.specs.View.{view_contract}
 use Rattle.memory_frames.specs.View.{cells_in, facts_in, shape_in}
 use Rattle.memory_walks.proofs.Walking.{seq_goes}
-use Rattle.memory_calls.specs.Sets.{call_havoc}
+use Rattle.memory_calls.specs.CallSets.{call_havoc}
 use Rattle.memory_call_walks.specs.Changed.{CallChanges}
 use Rattle.memory_call_walks.specs.View.{level_of, operands_over}
 use Rattle.memory_call_walks.proofs.Calling.{moved}

@@ -2,7 +2,7 @@ use Rattle.std.proofs.Common.{rules, ◌≡◌, ◌++◌, map, ap, ◌∙◌}
 use Rattle.acsl_trees.specs.Tree.{view_trees}
 use Rattle.qed_terms.specs.View.{formula_tree}
 use Rattle.core_trees.specs.View.{view_claim}
-use Rattle.memory_slots.specs.Leaves.{fill}
+use Rattle.memory_words.specs.Leaves.{fill}
 use Rattle.memory_words.specs.Sets.{assumed_tree}
 use Rattle.memory_call_walks.specs.Claimed.{claims_under}
 use Rattle.memory_call_walks.proofs.claims.push_claims.Goals as goal

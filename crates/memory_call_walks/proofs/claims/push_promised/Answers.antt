@@ -1,7 +1,7 @@
 use Rattle.std.proofs.Common.{false, map}
 use Rattle.qed_terms.specs.View.{formula_tree}
 use Rattle.program_trees.specs.View.{view_behavior}
-use Rattle.memory_slots.specs.Leaves.{fill}
+use Rattle.memory_words.specs.Leaves.{fill}
 use Rattle.memory_call_walks.specs.Claimed.{promised_by}
 use Rattle.memory_call_walks.proofs.Turns.{joined_turn, joined_end}
 use Rattle.memory_call_walks.proofs.claims.push_promised.Goals as goal

@@ -3,7 +3,7 @@ use Rattle.acsl_encode.specs.Readings.{Reading}
 use Rattle.acsl_trees.specs.Tree as acsl
 use Rattle.qed_terms.specs.View.{formula_tree}
 use Rattle.memory_steps.specs.Forms.{Slots}
-use Rattle.memory_slots.specs.Leaves.{fill}
+use Rattle.memory_words.specs.Leaves.{fill}
 use Rattle.memory_frames.specs.Labelled.{Labelled}
 use Rattle.program_trees.specs.View.{view_behavior}
 use Rattle.memory_call_walks.specs.Claimed.{joined, promised_by}

@@ -2,7 +2,7 @@ use Rattle.std.proofs.Common.{map, sym, ◌∙◌}
 use Rattle.qed_terms.specs.View.{formula_tree}
 use Rattle.c_runs.specs.Program as program
 use Rattle.core_trees.specs.View.{view_claim}
-use Rattle.memory_slots.specs.Leaves.{fill}
+use Rattle.memory_words.specs.Leaves.{fill}
 use Rattle.memory_words.specs.Sets.{claim_tree, under}
 use Rattle.memory_call_walks.proofs.Parts.{under_filled}
 use Rattle.memory_call_walks.proofs.Pushing.{pushed}

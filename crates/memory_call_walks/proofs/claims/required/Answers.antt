@@ -2,7 +2,7 @@ use Rattle.std.proofs.Common.{rules, ◌≡◌, ◌++◌, false, true, map, sym,
 use Rattle.std.proofs.lemmas.List.{map-append}
 use Rattle.qed_terms.specs.View.{formula_tree}
 use Rattle.program_trees.specs.View.{view_behavior}
-use Rattle.memory_slots.specs.Leaves.{fill}
+use Rattle.memory_words.specs.Leaves.{fill}
 use Rattle.memory_call_walks.specs.Claimed.{joined, required_by}
 use Rattle.memory_call_walks.proofs.claims.required.Goals as goal
 

@@ -1,7 +1,7 @@
 use Rattle.std.proofs.Common.{sym, ap, ◌∙◌}
 use Rattle.acsl_trees.specs.Tree.{view_tree}
 use Rattle.acsl_encode.specs.Encode.{term_of}
-use Rattle.memory_loops.specs.Words.{or_zero}
+use Rattle.memory_calls.specs.LoopWords.{or_zero}
 use Rattle.memory_call_walks.specs.Claimed.{lower_tree}
 use Rattle.memory_call_walks.proofs.Parts.{zero_filled}
 use Rattle.memory_call_walks.proofs.measures.lower_at.Goals as goal

@@ -1,7 +1,7 @@
 use Rattle.std.proofs.Common.{◌≡◌, map, drop}
 use Rattle.std.specs.List.{list_all}
 use Rattle.program_trees.specs.View.{view_behavior}
-use Rattle.memory_calls.specs.Sets.{is_unset}
+use Rattle.memory_calls.specs.CallSets.{is_unset}
 use Rattle.memory_call_walks.proofs.named.are_unset.Given as goal
 
 abbrev pub invariant-loop-behavior : goal.invariant-loop-behavior

@@ -1,7 +1,7 @@
 use Rattle.std.proofs.Common.{Some, sym, ap, ◌∙◌}
 use Rattle.acsl_trees.specs.Tree.{view_trees}
 use Rattle.program_trees.specs.View.{view_facts}
-use Rattle.memory_calls.specs.Sets as words
+use Rattle.memory_calls.specs.CallSets as words
 use Rattle.memory_call_walks.proofs.named.is_named.Goals as goal
 
 pub returns-in-Global : goal.returns-in-Global

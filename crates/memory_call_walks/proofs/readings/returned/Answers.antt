@@ -1,7 +1,7 @@
 use Rattle.std.proofs.Common.{map, ap, ◌∙◌}
 use Rattle.qed_terms.specs.View.{term_tree}
 use Rattle.core_trees.specs.View.{view_variables}
-use Rattle.memory_slots.specs.Places.{answer, answer_offset}
+use Rattle.memory_words.specs.Places.{answer, answer_offset}
 use Rattle.memory_annotations.specs.Seen.{result_in}
 use Rattle.memory_annotations.specs.View.{sizes_in, view_result, view_seen}
 use Rattle.memory_values.specs.View.{view_terms}

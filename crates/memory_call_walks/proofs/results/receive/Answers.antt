@@ -4,7 +4,7 @@ use Rattle.program_trees.specs.View.{view_contract}
 use Rattle.memory_walks.specs.View.{view_state}
 use Rattle.memory_walks.specs.Walks.{Walks}
 use Rattle.memory_frames.specs.View.{bases_in, cells_in, facts_in, shape_in, view_point}
-use Rattle.memory_calls.specs.Words.{received}
+use Rattle.memory_calls.specs.CallWords.{received}
 use Rattle.memory_call_walks.proofs.results.receive.Goals as goal
 
 pub returns : goal.returns

@@ -9,7 +9,7 @@ use Rattle.memory_walks.specs.View.{view_state}
 use Rattle.memory_walks.specs.Walks.{Walks}
 use Rattle.memory_frames.specs.View.{bases_in, cells_in, facts_in, shape_in, view_point}
 use Rattle.memory_walks.proofs.Walking.{skip_walks}
-use Rattle.memory_calls.specs.Words.{received}
+use Rattle.memory_calls.specs.CallWords.{received}
 use Rattle.memory_writes.specs.Sources.{source_term}
 use Rattle.memory_call_walks.proofs.Calling.{moved}
 use Rattle.memory_call_walks.proofs.results.receive_source.Goals as goal

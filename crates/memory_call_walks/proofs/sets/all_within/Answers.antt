@@ -3,7 +3,7 @@ use Rattle.std.proofs.lemmas.List.{map-append}
 use Rattle.acsl_trees.specs.Tree.{view_trees}
 use Rattle.qed_terms.specs.View.{formula_tree}
 use Rattle.program_trees.specs.View.{view_behavior}
-use Rattle.memory_slots.specs.Leaves.{fill}
+use Rattle.memory_words.specs.Leaves.{fill}
 use Rattle.memory_frames.specs.View.{facts_in, shape_in}
 use Rattle.memory_call_walks.specs.Claimed.{joined}
 use Rattle.memory_call_walks.specs.Sets.{set_of, within_by}

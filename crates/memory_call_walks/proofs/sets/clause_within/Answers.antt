@@ -1,9 +1,9 @@
 use Rattle.std.proofs.Common.{rules, ◌≡◌, sym, ap, ◌∙◌}
 use Rattle.acsl_trees.specs.Tree.{view_trees}
 use Rattle.program_trees.specs.View.{view_behavior}
-use Rattle.memory_slots.specs.Leaves.{fill}
+use Rattle.memory_words.specs.Leaves.{fill}
 use Rattle.memory_words.specs.Sets.{assumed_tree}
-use Rattle.memory_calls.specs.Sets.{only_under}
+use Rattle.memory_calls.specs.CallSets.{only_under}
 use Rattle.memory_frames.specs.View.{facts_in, shape_in}
 use Rattle.memory_call_walks.specs.Sets.{set_of, set_within}
 use Rattle.memory_call_walks.proofs.Parts.{only_filled}

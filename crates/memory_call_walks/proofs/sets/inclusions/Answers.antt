@@ -1,7 +1,7 @@
 use Rattle.std.proofs.Common.{sym, ◌∙◌}
 use Rattle.program_trees.specs.View.{view_contract}
 use Rattle.memory_words.specs.Sets.{as_one_unless}
-use Rattle.memory_calls.specs.Sets.{refuses}
+use Rattle.memory_calls.specs.CallSets.{refuses}
 use Rattle.memory_frames.specs.View.{facts_in, shape_in}
 use Rattle.memory_call_walks.specs.Sets.{all_inclusions}
 use Rattle.memory_call_walks.proofs.Parts.{unless_filled}

@@ -2,9 +2,9 @@ use Rattle.std.proofs.Common.{rules, ◌≡◌, [], ◌∷◌, sym, ap, ◌∙�
 use Rattle.acsl_trees.specs.Tree.{view_trees}
 use Rattle.qed_terms.specs.Tree.{and_of}
 use Rattle.qed_terms.specs.View.{formula_tree}
-use Rattle.memory_slots.specs.Leaves.{fill}
+use Rattle.memory_words.specs.Leaves.{fill}
 use Rattle.memory_words.specs.Sets.{assumed_tree}
-use Rattle.memory_calls.specs.Sets.{only_under}
+use Rattle.memory_calls.specs.CallSets.{only_under}
 use Rattle.memory_call_walks.proofs.sets.only_under.Goals as goal
 
 pub returns : goal.returns

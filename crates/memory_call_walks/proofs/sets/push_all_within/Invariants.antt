@@ -5,7 +5,7 @@ use Rattle.acsl_trees.specs.Tree.{view_trees}
 use Rattle.qed_terms.specs.Tree.{Tree}
 use Rattle.qed_terms.specs.View.{formula_tree}
 use Rattle.memory_steps.specs.Forms.{Slots}
-use Rattle.memory_slots.specs.Leaves.{fill}
+use Rattle.memory_words.specs.Leaves.{fill}
 use Rattle.memory_words.specs.Regions.{RegionTree}
 use Rattle.memory_frames.specs.Labelled.{Labelled}
 use Rattle.memory_frames.specs.View.{facts_in, shape_in}

@@ -3,7 +3,7 @@ use Rattle.std.specs.Option.{option_map}
 use Rattle.acsl_trees.specs.Tree.{view_trees}
 use Rattle.qed_terms.specs.View.{formula_tree}
 use Rattle.program_trees.specs.View.{view_behavior, view_contract}
-use Rattle.memory_slots.specs.Leaves.{fill}
+use Rattle.memory_words.specs.Leaves.{fill}
 use Rattle.memory_frames.specs.View.{facts_in, shape_in}
 use Rattle.memory_call_walks.specs.Sets.{inclusion_under}
 use Rattle.memory_call_walks.proofs.Pushing.{pushed}

@@ -1,7 +1,7 @@
 use Rattle.std.proofs.Common.{false, map}
 use Rattle.qed_terms.specs.View.{formula_tree}
 use Rattle.program_trees.specs.View.{view_behavior, view_contract}
-use Rattle.memory_slots.specs.Leaves.{fill}
+use Rattle.memory_words.specs.Leaves.{fill}
 use Rattle.memory_frames.specs.View.{facts_in, shape_in}
 use Rattle.memory_call_walks.specs.Sets.{inclusion_by}
 use Rattle.memory_call_walks.proofs.Turns.{joined_turn, joined_end}

@@ -1,5 +1,5 @@
 use Rattle.qed_terms.specs.View.{formula_tree}
-use Rattle.memory_readings.specs.Readings.{body_reading}
+use Rattle.memory_words.specs.Readings.{body_reading}
 use Rattle.memory_words.specs.Sets.{since}
 use Rattle.memory_frames.specs.View.{cells_in, facts_in, shape_in, view_stands}
 use Rattle.memory_walks.specs.View.{view_state}

@@ -1,7 +1,7 @@
 use Rattle.std.proofs.Common.{rules, ◌≡◌, ap, ◌∙◌}
 use Rattle.acsl_trees.specs.Tree.{view_trees}
 use Rattle.program_trees.specs.View.{view_contract}
-use Rattle.memory_slots.specs.Leaves.{fill}
+use Rattle.memory_words.specs.Leaves.{fill}
 use Rattle.memory_words.specs.Regions.{regions_in}
 use Rattle.memory_frames.specs.Regions.{region_trees}
 use Rattle.memory_frames.specs.View.{facts_in, shape_in}

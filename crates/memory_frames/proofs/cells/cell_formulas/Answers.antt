@@ -2,8 +2,8 @@ use Rattle.std.proofs.Common.{rules, ◌≡◌, ◌∷◌, [], IfOk, map, ap, su
 use Rattle.acsl_trees.specs.Tree.{view_trees}
 use Rattle.qed_terms.specs.View.{formula_tree}
 use Rattle.program_trees.specs.View.{view_contract}
-use Rattle.memory_readings.specs.Readings.{body_reading}
-use Rattle.memory_slots.specs.Leaves.{fill}
+use Rattle.memory_words.specs.Readings.{body_reading}
+use Rattle.memory_words.specs.Leaves.{fill}
 use Rattle.memory_walks.specs.View.{view_state}
 use Rattle.memory_walks.specs.Walks.{states}
 use Rattle.memory_words.specs.Sets.{set_tree}

@@ -1,7 +1,7 @@
 use Rattle.std.proofs.Common.{rules, ◌≡◌, ◌++◌, true, map, ap, sym, ◌∙◌}
 use Rattle.qed_terms.specs.View.{formula_tree}
 use Rattle.program_trees.specs.View.{view_behavior, view_contract}
-use Rattle.memory_slots.specs.Leaves.{fill}
+use Rattle.memory_words.specs.Leaves.{fill}
 use Rattle.memory_words.specs.Sets.{all_clause_trees, clause_trees}
 use Rattle.memory_frames.proofs.Telling.{map_both}
 use Rattle.memory_frames.proofs.cells.function_clauses.Goals as goal

@@ -1,6 +1,6 @@
 use Rattle.std.proofs.Common.{◌≡◌, ◌∷◌, [], IfOk, map, ap, subst, sym}
 use Rattle.qed_terms.specs.View.{formula_tree}
-use Rattle.memory_readings.specs.Readings.{body_reading}
+use Rattle.memory_words.specs.Readings.{body_reading}
 use Rattle.memory_walks.specs.View.{view_state}
 use Rattle.memory_walks.specs.Walks.{states}
 use Rattle.memory_words.specs.Sets.{since}

@@ -3,7 +3,7 @@ use Rattle.std.specs.Option.{option_map}
 use Rattle.acsl_trees.specs.Tree.{view_trees}
 use Rattle.program_trees.specs.View.{view_behavior}
 use Rattle.qed_terms.specs.View.{formula_tree}
-use Rattle.memory_slots.specs.Leaves.{fill}
+use Rattle.memory_words.specs.Leaves.{fill}
 use Rattle.memory_words.specs.Sets.{entry_at, set_tree, since}
 use Rattle.memory_frames.proofs.Write_given.{no_clause, one_clause}
 use Rattle.memory_frames.proofs.cells.put_clause.Goals as goal

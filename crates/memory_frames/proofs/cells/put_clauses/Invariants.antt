@@ -3,9 +3,9 @@ use Rattle.qed_terms.specs.View.{formula_tree, term_tree}
 use Rattle.qed_terms.specs.Tree.{Tree}
 use Rattle.c_runs.specs.Program.{Facts}
 use Rattle.memory_steps.specs.Forms.{Slots}
-use Rattle.memory_slots.specs.Leaves.{fill}
-use Rattle.memory_readings.specs.Shapes.{FileCells, Shape}
-use Rattle.memory_readings.specs.Readings.{Standpoint}
+use Rattle.memory_words.specs.Leaves.{fill}
+use Rattle.memory_words.specs.Shapes.{FileCells, Shape}
+use Rattle.memory_words.specs.Readings.{Standpoint}
 use Rattle.memory_words.specs.Sets.{entry_at, since}
 use Rattle.memory_frames.specs.Labelled.{Labelled}
 use Rattle.memory_frames.proofs.Write_given.{clauses_code}

@@ -1,4 +1,4 @@
-use Rattle.memory_readings.specs.Readings.{body_reading}
+use Rattle.memory_words.specs.Readings.{body_reading}
 use Rattle.memory_walks.specs.View.{view_state}
 use Rattle.memory_walks.specs.Walks.{states}
 use Rattle.memory_frames.specs.View.{cells_in, facts_in, shape_in, view_stands}

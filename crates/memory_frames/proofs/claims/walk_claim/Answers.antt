@@ -3,8 +3,8 @@ use Rattle.acsl_trees.specs.Tree.{view_tree}
 use Rattle.c_runs.specs.Claims as broken
 use Rattle.program_steps.specs.Stops.{broken_place}
 use Rattle.qed_terms.specs.View.{formula_tree}
-use Rattle.memory_readings.specs.Readings.{body_reading}
-use Rattle.memory_readings.specs.Shapes.{sizes}
+use Rattle.memory_words.specs.Readings.{body_reading}
+use Rattle.memory_words.specs.Shapes.{sizes}
 use Rattle.memory_walks.specs.View.{view_state}
 use Rattle.memory_walks.specs.Walks.{states}
 use Rattle.memory_words.specs.Sets.{claim_tree}

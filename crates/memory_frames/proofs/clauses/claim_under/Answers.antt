@@ -2,7 +2,7 @@ use Rattle.std.proofs.Common.{rules, ◌≡◌, IfOk, ap, sym, subst, ◌∙◌}
 use Rattle.acsl_trees.specs.Tree.{view_trees}
 use Rattle.qed_terms.specs.Tree.{imp_of}
 use Rattle.qed_terms.specs.View.{formula_tree}
-use Rattle.memory_slots.specs.Leaves.{fill}
+use Rattle.memory_words.specs.Leaves.{fill}
 use Rattle.memory_words.specs.Sets.{assumed_tree, under}
 use Rattle.memory_frames.proofs.clauses.claim_under.Goals as goal
 

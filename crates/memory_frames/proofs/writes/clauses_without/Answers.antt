@@ -1,7 +1,7 @@
 use Rattle.std.proofs.Common.{rules, ◌≡◌, ◌++◌, true, map, ap, sym, ◌∙◌}
 use Rattle.qed_terms.specs.View.{formula_tree}
 use Rattle.program_trees.specs.View.{view_behavior, view_contract}
-use Rattle.memory_slots.specs.Leaves.{fill}
+use Rattle.memory_words.specs.Leaves.{fill}
 use Rattle.memory_words.specs.Sets.{missing_all, missing_in}
 use Rattle.memory_frames.proofs.Telling.{map_both}
 use Rattle.memory_frames.proofs.writes.clauses_without.Goals as goal

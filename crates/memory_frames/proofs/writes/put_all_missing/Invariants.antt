@@ -2,8 +2,8 @@ use Rattle.std.proofs.Common.{◌≡◌, ◌++◌, List, drop, map}
 use Rattle.qed_terms.specs.View.{formula_tree}
 use Rattle.c_runs.specs.Program.{Facts}
 use Rattle.memory_steps.specs.Forms.{Slots}
-use Rattle.memory_readings.specs.Shapes.{FileCells, Shape}
-use Rattle.memory_readings.specs.Readings.{Standpoint}
+use Rattle.memory_words.specs.Shapes.{FileCells, Shape}
+use Rattle.memory_words.specs.Readings.{Standpoint}
 use Rattle.memory_words.specs.Sets.{entry_at}
 use Rattle.memory_frames.specs.Labelled.{Labelled}
 use Rattle.memory_frames.proofs.Write_given.{missing_code}

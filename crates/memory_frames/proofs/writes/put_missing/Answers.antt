@@ -1,7 +1,7 @@
 use Rattle.std.proofs.Common.{ap, sym, ◌∙◌}
 use Rattle.qed_terms.proofs.Equations.{formula_tree-False}
 use Rattle.program_trees.specs.View.{view_behavior}
-use Rattle.memory_slots.specs.Leaves.{fill}
+use Rattle.memory_words.specs.Leaves.{fill}
 use Rattle.memory_words.specs.Sets.{assumed_at, entry_at, under}
 use Rattle.memory_frames.proofs.Write_given.{one_missing}
 use Rattle.memory_frames.proofs.writes.put_missing.Goals as goal

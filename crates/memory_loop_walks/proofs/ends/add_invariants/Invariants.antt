@@ -4,7 +4,7 @@ use Rattle.acsl_trees.specs.Tree as acsl
 use Rattle.core_trees.specs.View.{view_claim}
 use Rattle.qed_terms.specs.Meaning as sense
 use Rattle.memory_steps.specs.Forms.{Slots}
-use Rattle.memory_slots.specs.Places.{Sizes}
+use Rattle.memory_words.specs.Places.{Sizes}
 use Rattle.memory_frames.specs.Asked.{view_asked, written_check}
 use Rattle.memory_frames.specs.Labelled.{Labelled}
 use Rattle.memory_loop_walks.specs.Parts.{invariant_check}

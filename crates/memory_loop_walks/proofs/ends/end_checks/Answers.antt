@@ -1,8 +1,8 @@
 use Rattle.std.proofs.Common.{rules, ◌≡◌, ◌++◌, [], ◌∙◌, ap, map, true}
 use Rattle.std.specs.Option.{option_map}
 use Rattle.core_trees.specs.View.{view_claim, view_loop, view_measure}
-use Rattle.memory_readings.specs.Shapes.{sizes}
-use Rattle.memory_readings.specs.Readings.{body_reading}
+use Rattle.memory_words.specs.Shapes.{sizes}
+use Rattle.memory_words.specs.Readings.{body_reading}
 use Rattle.memory_frames.specs.Asked.{view_asked, written_check}
 use Rattle.memory_frames.specs.View.{cells_in, facts_in, shape_in, view_point}
 use Rattle.memory_walks.specs.View.{view_state}

@@ -1,7 +1,7 @@
 use Rattle.std.proofs.Common.{rules, ◌≡◌, ◌++◌, [], ◌∙◌, map, false}
 use Rattle.core_trees.specs.View.{view_claim}
-use Rattle.memory_readings.specs.Shapes.{sizes}
-use Rattle.memory_readings.specs.Readings.{body_reading}
+use Rattle.memory_words.specs.Shapes.{sizes}
+use Rattle.memory_words.specs.Readings.{body_reading}
 use Rattle.memory_frames.specs.Asked.{view_asked, written_check}
 use Rattle.memory_frames.specs.View.{cells_in, facts_in, shape_in, view_point}
 use Rattle.memory_walks.specs.View.{view_state}

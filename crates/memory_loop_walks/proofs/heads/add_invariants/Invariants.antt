@@ -4,7 +4,7 @@ use Rattle.acsl_trees.specs.Tree as acsl
 use Rattle.c_runs.specs.Program.{Claim}
 use Rattle.core_trees.specs.View.{view_claim}
 use Rattle.qed_terms.specs.View.{formula_tree}
-use Rattle.memory_slots.specs.Leaves.{fill}
+use Rattle.memory_words.specs.Leaves.{fill}
 use Rattle.memory_steps.specs.Forms.{Slots}
 use Rattle.memory_frames.specs.Labelled.{Labelled}
 use Rattle.memory_words.specs.Sets.{claim_tree}

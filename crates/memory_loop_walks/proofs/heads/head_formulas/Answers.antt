@@ -3,14 +3,14 @@ use Rattle.c_runs.specs.Program.{Claim}
 use Rattle.core_trees.specs.View.{view_claim, view_loop}
 use Rattle.program_trees.specs.View.{view_contract}
 use Rattle.memory_frames.specs.View.{cells_in, facts_in, shape_in, view_point}
-use Rattle.memory_readings.specs.Readings.{body_reading}
-use Rattle.memory_slots.specs.Leaves.{fill}
+use Rattle.memory_words.specs.Readings.{body_reading}
+use Rattle.memory_words.specs.Leaves.{fill}
 use Rattle.memory_walks.specs.View.{view_state}
 use Rattle.memory_walks.specs.Walks.{states}
 use Rattle.memory_words.specs.Points.{at_present}
 use Rattle.memory_words.specs.Sets.{claim_tree}
 use Rattle.memory_words.specs.Words.{entered_loop}
-use Rattle.memory_loops.specs.Words.{stay_trees}
+use Rattle.memory_calls.specs.LoopWords.{stay_trees}
 use Rattle.memory_loop_walks.proofs.Lists.{map_both}
 use Rattle.memory_loop_walks.proofs.Standing_so.{labelled_at}
 use Rattle.memory_loop_walks.proofs.heads.head_formulas.Goals as goal

@@ -3,10 +3,10 @@ use Rattle.c_runs.specs.Program.{Behavior}
 use Rattle.program_trees.specs.View.{view_behavior, view_contract}
 use Rattle.memory_annotations.specs.View.{view_scope}
 use Rattle.memory_frames.specs.View.{cells_in, facts_in, shape_in, view_point, view_stands}
-use Rattle.memory_havoc.specs.Stays.{all_stay}
-use Rattle.memory_loops.specs.Sets.{turns}
-use Rattle.memory_readings.specs.Readings.{entry_reading}
-use Rattle.memory_slots.specs.Leaves.{fill}
+use Rattle.memory_calls.specs.Stays.{all_stay}
+use Rattle.memory_calls.specs.LoopSets.{turns}
+use Rattle.memory_words.specs.Readings.{entry_reading}
+use Rattle.memory_words.specs.Leaves.{fill}
 use Rattle.memory_walks.specs.View.{view_state}
 use Rattle.memory_walks.specs.Walks.{states}
 use Rattle.memory_words.specs.Points.{later}

@@ -6,7 +6,7 @@ use Rattle.memory_walks.specs.View.{view_state}
 use Rattle.memory_walks.specs.Walks.{states}
 use Rattle.memory_words.specs.Regions.{regions_in}
 use Rattle.memory_words.specs.Sets.{since, entry_at}
-use Rattle.memory_loops.specs.Sets.{inside_by, own_reading}
+use Rattle.memory_calls.specs.LoopSets.{inside_by, own_reading}
 use Rattle.memory_loop_walks.proofs.Included.{no_clause, clause_made}
 use Rattle.memory_loop_walks.proofs.inside.add_clause.Goals as goal
 

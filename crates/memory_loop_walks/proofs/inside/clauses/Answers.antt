@@ -2,11 +2,11 @@ use Rattle.std.proofs.Common.{rules, ◌≡◌, ◌++◌, [], ◌∙◌, ap, sym
 use Rattle.acsl_trees.specs.Tree.{view_trees}
 use Rattle.program_trees.specs.View.{view_behavior}
 use Rattle.qed_terms.specs.View.{formula_tree}
-use Rattle.memory_slots.specs.Leaves.{fill}
+use Rattle.memory_words.specs.Leaves.{fill}
 use Rattle.memory_frames.specs.View.{cells_in, facts_in, shape_in, view_point}
 use Rattle.memory_walks.specs.View.{view_state}
 use Rattle.memory_walks.specs.Walks.{states}
-use Rattle.memory_loops.specs.Sets as spec
+use Rattle.memory_calls.specs.LoopSets as spec
 use Rattle.memory_loop_walks.proofs.Lists.{map_both}
 use Rattle.memory_loop_walks.proofs.Included.{clause_turn}
 use Rattle.memory_loop_walks.proofs.inside.clauses.Goals as goal

@@ -5,7 +5,7 @@ use Rattle.qed_terms.specs.View.{formula_tree}
 use Rattle.memory_frames.specs.View.{cells_in, facts_in, shape_in, view_point}
 use Rattle.memory_walks.specs.View.{view_state}
 use Rattle.memory_walks.specs.Walks.{states}
-use Rattle.memory_loops.specs.Sets as spec
+use Rattle.memory_calls.specs.LoopSets as spec
 use Rattle.memory_loop_walks.proofs.Included.{clauses_joined}
 use Rattle.memory_loop_walks.proofs.inside.in_body.Goals as goal
 

@@ -1,13 +1,13 @@
 use Rattle.std.proofs.Common.{◌∙◌, ap, map}
 use Rattle.acsl_trees.specs.Tree.{view_trees}
-use Rattle.memory_slots.specs.Leaves.{fill}
+use Rattle.memory_words.specs.Leaves.{fill}
 use Rattle.memory_frames.specs.View.{cells_in, facts_in, shape_in, view_stands}
-use Rattle.memory_readings.specs.Readings.{body_reading}
+use Rattle.memory_words.specs.Readings.{body_reading}
 use Rattle.memory_walks.specs.View.{view_state}
 use Rattle.memory_walks.specs.Walks.{states}
 use Rattle.memory_words.specs.Regions.{regions_in}
 use Rattle.memory_words.specs.Sets.{since}
-use Rattle.memory_loops.specs.Sets.{inside_by}
+use Rattle.memory_calls.specs.LoopSets.{inside_by}
 use Rattle.memory_loop_walks.proofs.inside.in_loop.Goals as goal
 
 pub returns : goal.returns

@@ -3,11 +3,11 @@ use Rattle.std.specs.Option.{option_map}
 use Rattle.acsl_trees.specs.Tree.{view_trees}
 use Rattle.core_trees.specs.View.{view_loop}
 use Rattle.program_trees.specs.View.{view_contract}
-use Rattle.memory_slots.specs.Leaves.{fill}
+use Rattle.memory_words.specs.Leaves.{fill}
 use Rattle.memory_frames.specs.View.{cells_in, facts_in, shape_in, view_point}
 use Rattle.memory_walks.specs.View.{view_state}
 use Rattle.memory_walks.specs.Walks.{states}
-use Rattle.memory_loops.specs.Sets as spec
+use Rattle.memory_calls.specs.LoopSets as spec
 use Rattle.memory_loop_walks.proofs.inside.inside_formulas.Goals as goal
 
 pub returns-in_ok-made-in-Some : goal.returns-in_ok-made-in-Some

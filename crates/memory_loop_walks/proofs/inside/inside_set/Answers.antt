@@ -5,7 +5,7 @@ use Rattle.memory_walks.specs.View.{view_state}
 use Rattle.memory_walks.specs.Walks.{states}
 use Rattle.memory_words.specs.Regions.{regions_in}
 use Rattle.memory_words.specs.Sets as sets
-use Rattle.memory_loops.specs.Sets.{inside_by}
+use Rattle.memory_calls.specs.LoopSets.{inside_by}
 use Rattle.memory_loop_walks.proofs.Filled_regions.{inside_by_filled}
 use Rattle.memory_loop_walks.proofs.inside.inside_set.Goals as goal
 

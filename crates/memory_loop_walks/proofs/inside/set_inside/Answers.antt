@@ -4,7 +4,7 @@ use Rattle.memory_frames.specs.View.{cells_in, facts_in, shape_in, view_point}
 use Rattle.memory_walks.specs.View.{view_state}
 use Rattle.memory_walks.specs.Walks.{states}
 use Rattle.memory_words.specs.Words.{entered_loop}
-use Rattle.memory_loops.specs.Sets as spec
+use Rattle.memory_calls.specs.LoopSets as spec
 use Rattle.memory_loop_walks.proofs.Standing_so.{labelled_at}
 use Rattle.memory_loop_walks.proofs.inside.set_inside.Goals as goal
 

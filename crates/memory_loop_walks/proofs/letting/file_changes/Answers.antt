@@ -1,5 +1,5 @@
 use Rattle.std.proofs.Common.{◌≡◌, ℕ, Bool, ◌∙◌, ap, arith}
-use Rattle.memory_loops.specs.Sets as spec
+use Rattle.memory_calls.specs.LoopSets as spec
 use Rattle.typed_prog.specs.declared.operators.Variable.TheVariants as variables
 use Rattle.walk_live.specs.Bits.{bits}
 use Rattle.memory_loop_walks.specs.Forces.{view_in_force}

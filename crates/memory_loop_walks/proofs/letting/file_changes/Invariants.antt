@@ -1,7 +1,7 @@
 use Rattle.std.proofs.Common.{◌≡◌}
 use Rattle.c_runs.specs.Program.{Loop}
 use Rattle.core_checks.specs.Tree.{Steps}
-use Rattle.memory_loops.specs.Sets as spec
+use Rattle.memory_calls.specs.LoopSets as spec
 use Rattle.typed_prog.specs.declared.operators.Variable.TheVariants as variables
 use Rattle.walk_live.specs.Bits.{bits}
 use Rattle.memory_loop_walks.specs.Forces.{view_in_force}

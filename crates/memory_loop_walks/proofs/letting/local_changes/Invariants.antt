@@ -1,7 +1,7 @@
 use Rattle.std.proofs.Common.{◌≡◌, ℕ}
 use Rattle.core_checks.specs.Tree.{Steps}
 use Rattle.core_trees.specs.View.{view_loop}
-use Rattle.memory_loops.specs.Sets as spec
+use Rattle.memory_calls.specs.LoopSets as spec
 use Rattle.plain_runs.specs.Kept.{some_sets}
 use Rattle.typed_prog.specs.declared.operators.Variable.TheVariants as variables
 use Rattle.walk_live.specs.Bits.{bits}

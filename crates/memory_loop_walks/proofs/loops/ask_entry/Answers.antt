@@ -1,7 +1,7 @@
 use Rattle.std.proofs.Common.{map}
 use Rattle.core_trees.specs.View.{view_loop}
 use Rattle.memory_frames.specs.View.{bases_in, cells_in, facts_in, shape_in, view_point}
-use Rattle.memory_loops.specs.Words as words
+use Rattle.memory_calls.specs.LoopWords as words
 use Rattle.memory_loop_walks.proofs.loops.ask_entry.Goals as goal
 
 pub returns : goal.returns

@@ -2,10 +2,10 @@ use Rattle.c_runs.specs.Claims as broken
 use Rattle.core_trees.specs.View.{view_loop}
 use Rattle.program_steps.specs.Stops.{broken_place}
 use Rattle.program_trees.specs.View.{view_contract}
-use Rattle.memory_readings.specs.Shapes.{sizes}
+use Rattle.memory_words.specs.Shapes.{sizes}
 use Rattle.memory_walks.specs.View.{view_place}
 use Rattle.memory_frames.specs.View.{bases_in, cells_in, facts_in, shape_in, view_point}
-use Rattle.memory_loops.specs.Sets.{inside_trees}
+use Rattle.memory_calls.specs.LoopSets.{inside_trees}
 use Rattle.memory_loop_walks.proofs.Closed_trees.{inside_closed}
 use Rattle.memory_loop_walks.proofs.Passing.{at_place}
 use Rattle.memory_loop_walks.proofs.loops.ask_inside.Goals as goal

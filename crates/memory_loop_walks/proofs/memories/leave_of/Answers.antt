@@ -3,7 +3,7 @@ use Rattle.acsl_trees.specs.Tree.{view_trees}
 use Rattle.changed_memories.specs.Leaving.{fill_leave}
 use Rattle.memory_annotations.specs.View.{view_scope}
 use Rattle.memory_frames.specs.View.{cells_in, facts_in, shape_in, view_point, view_stands}
-use Rattle.memory_readings.specs.Readings.{body_reading, entry_reading}
+use Rattle.memory_words.specs.Readings.{body_reading, entry_reading}
 use Rattle.memory_walks.specs.View.{view_state}
 use Rattle.memory_walks.specs.Walks.{states}
 use Rattle.memory_words.specs.Points.{later}
@@ -11,7 +11,7 @@ use Rattle.memory_words.specs.Regions.{regions_in}
 use Rattle.memory_words.specs.Renewal.{of_regions}
 use Rattle.memory_words.specs.Sets.{since}
 use Rattle.memory_words.specs.Words.{entered_loop}
-use Rattle.memory_loops.specs.Sets as spec
+use Rattle.memory_calls.specs.LoopSets as spec
 use Rattle.memory_loop_walks.specs.Forces.{view_in_force}
 use Rattle.memory_loop_walks.proofs.Levels_over.{body_left, entry_left}
 use Rattle.memory_loop_walks.proofs.memories.leave_of.Goals as goal

@@ -1,6 +1,6 @@
 use Rattle.std.proofs.Common.{◌≡◌, ◌∷◌, [], ◌∙◌, sym, ap, map}
 use Rattle.qed_terms.specs.View.{term_tree}
-use Rattle.memory_slots.specs.Leaves.{fill}
+use Rattle.memory_words.specs.Leaves.{fill}
 use Rattle.memory_words.specs.Renewal.{of_regions}
 use Rattle.memory_words.specs.Sets as sets
 use Rattle.memory_loop_walks.proofs.memories.left_by.Goals as goal

@@ -1,6 +1,6 @@
 use Rattle.std.proofs.Common.{◌≡◌, drop}
 use Rattle.memory_frames.specs.Regions.{region_trees}
-use Rattle.memory_loops.specs.Sets as spec
+use Rattle.memory_calls.specs.LoopSets as spec
 use Rattle.memory_loop_walks.proofs.memories.some_has.Given as goal
 
 abbrev pub invariant-loop-region : goal.invariant-loop-region

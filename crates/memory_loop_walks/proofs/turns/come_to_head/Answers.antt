@@ -2,7 +2,7 @@ use Rattle.checked_trees.specs.View.{view_steps}
 use Rattle.core_trees.specs.View.{view_loop}
 use Rattle.program_trees.specs.View.{view_contract}
 use Rattle.memory_frames.specs.View.{cells_in, facts_in, shape_in, view_point}
-use Rattle.memory_loops.specs.Sets.{turns}
+use Rattle.memory_calls.specs.LoopSets.{turns}
 use Rattle.memory_walks.proofs.Walking.{seq_goes}
 use Rattle.memory_loop_walks.proofs.turns.come_to_head.Goals as goal
 

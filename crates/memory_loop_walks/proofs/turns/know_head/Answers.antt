@@ -2,7 +2,7 @@ use Rattle.std.proofs.Common.{rules}
 use Rattle.core_trees.specs.View.{view_loop}
 use Rattle.program_trees.specs.View.{view_contract}
 use Rattle.memory_frames.specs.View.{bases_in, cells_in, facts_in, shape_in, view_point}
-use Rattle.memory_loops.specs.Sets.{turns}
+use Rattle.memory_calls.specs.LoopSets.{turns}
 use Rattle.memory_loop_walks.specs.Parts.{head_trees}
 use Rattle.memory_loop_walks.proofs.Closed_trees.{head_closed}
 use Rattle.memory_loop_walks.proofs.Turned_so.{flags_as}

@@ -1,7 +1,7 @@
 use Rattle.std.proofs.Common.{rules, ◌≡◌, ◌∙◌, ap, sym, length}
 use Rattle.checked_trees.specs.View.{view_steps}
 use Rattle.core_trees.specs.View.{view_loop}
-use Rattle.memory_loops.specs.Sets as spec
+use Rattle.memory_calls.specs.LoopSets as spec
 use Rattle.typed_prog.specs.declared.operators.Variable.TheVariants as variables
 use Rattle.walk_live.specs.Bits.{bits}
 use Rattle.memory_loop_walks.proofs.Turned_so.{length_seen}

@@ -8,7 +8,7 @@ use Rattle.changed_memories.specs.Flags.{flag_of}
 use Rattle.changed_memories.specs.Leaving.{fill_leave}
 use Rattle.memory_steps.specs.Forms.{Slots}
 use Rattle.memory_frames.specs.View.{cells_in, facts_in, shape_in, variables_in, view_point}
-use Rattle.memory_loops.specs.Sets as spec
+use Rattle.memory_calls.specs.LoopSets as spec
 use Rattle.memory_walks.specs.View.{view_state}
 use Rattle.memory_loop_walks.specs.Forces.{view_in_force}
 use Rattle.memory_loop_walks.specs.Parts.{is_anything, is_own_set, renewed_by}

@@ -1,6 +1,6 @@
 use Rattle.std.proofs.Common.{map}
 use Rattle.qed_terms.specs.View.{term_tree}
-use Rattle.memory_slots.specs.Leaves.{leaf, memory_leaf}
+use Rattle.memory_words.specs.Leaves.{leaf, memory_leaf}
 use Rattle.memory_values.specs.View.{view_place, view_term}
 use Rattle.memory_walks.specs.View.{view_state}
 use Rattle.memory_walks.specs.Walks.{states}

@@ -2,7 +2,7 @@ use Rattle.std.proofs.Common.{rules, ◌≡◌, [], ◌∷◌, map, ap, ◌∙�
 use Rattle.qed_terms.specs.View.{term_tree}
 use Rattle.typed_prog.specs.Tree.{values_of}
 use Rattle.typed_prog.specs.View.{view_values}
-use Rattle.memory_slots.specs.Places.{slot, answer, answer_offset}
+use Rattle.memory_words.specs.Places.{slot, answer, answer_offset}
 use Rattle.memory_worlds.specs.View.{exits_at}
 use Rattle.memory_walks.specs.View.{view_state}
 use Rattle.memory_walks.specs.Ways.{now_put_back}

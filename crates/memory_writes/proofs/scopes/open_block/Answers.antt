@@ -3,8 +3,8 @@ use Rattle.wp_base.specs.declared.kinds.CellKind.{CellKind}
 use Rattle.qed_terms.specs.View.{term_tree}
 use Rattle.typed_prog.specs.declared.operators.Variable.TheVariants as variables
 use Rattle.changed_memories.specs.Changed.{RenewedAre}
-use Rattle.memory_slots.specs.Leaves.{leaf}
-use Rattle.memory_slots.specs.Places.{slot, value}
+use Rattle.memory_words.specs.Leaves.{leaf}
+use Rattle.memory_words.specs.Places.{slot, value}
 use Rattle.memory_words.specs.Renewal.{of_regions}
 use Rattle.memory_words.specs.Words.{has_cell_of}
 use Rattle.memory_walks.specs.View.{view_state}

@@ -2,7 +2,7 @@ use Rattle.std.proofs.Common.{rules, ◌≡◌, ◌∷◌, [], suc, ap, sym, sub
 use Rattle.wp_base.specs.declared.kinds.CellKind.{CellKind}
 use Rattle.qed_terms.specs.View.{term_tree}
 use Rattle.changed_memories.specs.Changed.{RenewedAre}
-use Rattle.memory_slots.specs.Leaves.{fill}
+use Rattle.memory_words.specs.Leaves.{fill}
 use Rattle.memory_words.specs.Renewal.{of_regions}
 use Rattle.memory_words.specs.Sets.{since}
 use Rattle.memory_words.specs.Words.{home_kinds}

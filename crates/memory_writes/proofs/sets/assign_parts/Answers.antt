@@ -1,6 +1,6 @@
 use Rattle.qed_terms.specs.View.{term_tree}
-use Rattle.memory_slots.specs.Places.{answer}
-use Rattle.memory_slots.specs.Leaves.{leaf}
+use Rattle.memory_words.specs.Places.{answer}
+use Rattle.memory_words.specs.Leaves.{leaf}
 use Rattle.memory_values.specs.View.{view_place}
 use Rattle.memory_writes.specs.Moves.{sizes_in}
 use Rattle.memory_writes.specs.Sources.{source_term}

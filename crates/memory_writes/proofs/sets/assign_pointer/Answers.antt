@@ -1,6 +1,6 @@
 use Rattle.std.proofs.Common.{rules, ◌≡◌, [], ◌∷◌, map, ap, ◌∙◌}
 use Rattle.qed_terms.specs.View.{term_tree}
-use Rattle.memory_slots.specs.Places.{slot, answer}
+use Rattle.memory_words.specs.Places.{slot, answer}
 use Rattle.memory_values.specs.View.{view_place}
 use Rattle.memory_worlds.specs.View.{exits_at}
 use Rattle.memory_walks.specs.View.{view_state}

@@ -1,6 +1,6 @@
 use Rattle.std.proofs.Common.{ap, ◌∙◌}
 use Rattle.qed_terms.specs.View.{term_tree}
-use Rattle.memory_slots.specs.Places.{slot}
+use Rattle.memory_words.specs.Places.{slot}
 use Rattle.memory_values.specs.View.{view_place}
 use Rattle.memory_writes.specs.Moves.{sizes_in}
 use Rattle.memory_writes.proofs.Setting.{memory_set}

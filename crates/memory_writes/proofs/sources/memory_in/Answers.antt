@@ -2,8 +2,8 @@ use Rattle.std.proofs.Common.{rules, ◌≡◌, pos, map, ap, ◌∙◌}
 use Rattle.qed_terms.specs.Tree.{num}
 use Rattle.qed_terms.specs.View.{term_tree}
 use Rattle.walk_steps.specs.State.{at_or}
-use Rattle.memory_slots.specs.Leaves.{as_memory}
-use Rattle.memory_slots.specs.Places.{slot}
+use Rattle.memory_words.specs.Leaves.{as_memory}
+use Rattle.memory_words.specs.Places.{slot}
 use Rattle.memory_values.specs.View.{view_place}
 use Rattle.memory_worlds.specs.View.{view_slots}
 use Rattle.memory_walks.specs.View.{view_state}

@@ -1,4 +1,0 @@
-pub mod Good
-pub mod Staying
-pub mod Calling
-pub mod Receiving

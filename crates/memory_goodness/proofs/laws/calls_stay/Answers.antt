@@ -1,5 +1,0 @@
-use Rattle.memory_goodness.proofs.laws.calls_stay.Goals as goal
-use Rattle.memory_goodness.proofs.Calling as proof
-
-pub returns : goal.returns
-returns c = proof.calls_stay

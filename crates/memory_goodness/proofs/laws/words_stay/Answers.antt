@@ -1,5 +1,0 @@
-use Rattle.memory_goodness.proofs.laws.words_stay.Goals as goal
-use Rattle.memory_goodness.proofs.Staying as proof
-
-pub returns : goal.returns
-returns g c = proof.words_stay (record { loop_fits = g.O.OtherStatements.loop_fits; call_fits = g.O.OtherStatements.call_fits })

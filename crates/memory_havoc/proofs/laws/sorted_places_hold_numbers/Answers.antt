@@ -1,5 +1,0 @@
-use Rattle.memory_havoc.proofs.Sorts as sorts
-use Rattle.memory_havoc.proofs.laws.sorted_places_hold_numbers.Goals as goal
-
-pub returns : goal.returns
-returns c = sorts.sorted_places_hold_numbers

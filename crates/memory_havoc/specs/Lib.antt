@@ -1,4 +1,0 @@
-pub mod Havoc
-pub mod Stays
-pub mod Laws
-pub mod Sorts

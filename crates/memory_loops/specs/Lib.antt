@@ -1,4 +1,0 @@
-pub mod Sets
-pub mod Words
-pub mod Fits
-pub mod Laws

@@ -1,5 +1,0 @@
-use Rattle.memory_puts.proofs.Setting.{globals_are_set}
-use Rattle.memory_puts.proofs.laws.globals_are_set.Goals as goal
-
-pub returns : goal.returns
-returns c = globals_are_set

@@ -1,9 +1,0 @@
-pub mod Contents
-pub mod Sorts
-pub mod Standing
-pub mod Files
-pub mod Seeing
-pub mod Contracts
-pub mod Levels
-pub mod Worlds
-pub mod Worked

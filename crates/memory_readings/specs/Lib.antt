@@ -1,6 +1,0 @@
-pub mod Shapes
-pub mod Readings
-pub mod Standing
-pub mod Seen
-pub mod Laws
-pub mod Examples

@@ -1,5 +1,0 @@
-use Rattle.memory_scopes.proofs.Ending.{all_scopes_end}
-use Rattle.memory_scopes.proofs.laws.all_scopes_end.Goals as goal
-
-pub returns : goal.returns
-returns c = all_scopes_end

@@ -1,4 +1,0 @@
-pub mod Places
-pub mod Leaves
-pub mod Laws
-pub mod Examples

@@ -1,5 +1,0 @@
-use Rattle.memory_stores.proofs.Closed.{terms_are_closed}
-use Rattle.memory_stores.proofs.laws.terms_are_closed.Goals as goal
-
-pub returns : goal.returns
-returns c = terms_are_closed

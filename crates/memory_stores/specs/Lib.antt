@@ -1,3 +1,0 @@
-pub mod Stored
-pub mod Regions
-pub mod Laws

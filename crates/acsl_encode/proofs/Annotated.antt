@@ -9,10 +9,10 @@ use Rattle.acsl_trees.specs.declared.heads.Range.{Range}
 use Rattle.acsl_trees.specs.declared.heads.Head.{Head}
 use Rattle.acsl_trees.specs.declared.heads.Head.TheVariants as hd
 use Rattle.acsl_trees.specs.Tree.{Tree, Trees, node, stop, more}
-use Rattle.acsl_truth.specs.States as state
-use Rattle.acsl_truth.specs.States.{Value, World, number, is_true}
-use Rattle.acsl_truth.specs.Truth as truth
-use Rattle.acsl_truth.specs.Truth.{heads_of, least, greatest}
+use Rattle.c_runs.specs.TruthStates as state
+use Rattle.c_runs.specs.TruthStates.{Value, World, number, is_true}
+use Rattle.c_runs.specs.Truth as truth
+use Rattle.c_runs.specs.Truth.{heads_of, least, greatest}
 use Rattle.qed_terms.specs.Meaning.{Values, World as Logic, with_int}
 use Rattle.acsl_encode.specs.Readings.{Called, Terms, Common}
 use Rattle.acsl_encode.specs.Encode as encode

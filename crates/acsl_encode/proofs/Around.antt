@@ -7,10 +7,10 @@ use Rattle.std.proofs.lemmas.Slice.Eq.{bytes_eq-Decides}
 use Rattle.wp_base.specs.declared.kinds.Kind.{Kind}
 use Rattle.acsl_trees.specs.declared.heads.Label.{Label}
 use Rattle.acsl_trees.specs.declared.heads.Label.TheVariants as label
-use Rattle.acsl_truth.specs.States as state
-use Rattle.acsl_truth.specs.States.{Value, World, number}
-use Rattle.acsl_truth.specs.Truth as truth
-use Rattle.acsl_truth.specs.Truth.{Env}
+use Rattle.c_runs.specs.TruthStates as state
+use Rattle.c_runs.specs.TruthStates.{Value, World, number}
+use Rattle.c_runs.specs.Truth as truth
+use Rattle.c_runs.specs.Truth.{Env}
 use Rattle.qed_terms.specs.Tree.{var}
 use Rattle.qed_terms.specs.Meaning.{Values, World as Logic, with_int}
 use Rattle.acsl_encode.specs.Readings.{Terms, integer, Reading, moved_to}

@@ -8,9 +8,9 @@ use Rattle.wp_base.specs.declared.kinds.CellKind.{CellKind}
 use Rattle.wp_base.specs.declared.kinds.CellKind.TheVariants as cell
 use Rattle.wp_base.specs.Kinds.{kind_place}
 use Rattle.typed_prog.specs.declared.operators.Variable.TheVariants as variables
-use Rattle.acsl_truth.specs.States as state
-use Rattle.acsl_truth.specs.States.{Value, State}
-use Rattle.acsl_truth.specs.Truth.{value_at}
+use Rattle.c_runs.specs.TruthStates as state
+use Rattle.c_runs.specs.TruthStates.{Value, State}
+use Rattle.c_runs.specs.Truth.{value_at}
 use Rattle.qed_terms.specs.Meaning.{Values, World as Logic, Whole, Cells, whole}
 use Rattle.qed_terms.specs.Meaning as meant
 use Rattle.qed_terms.specs.Tree.{var}

@@ -7,9 +7,9 @@ use Rattle.wp_base.specs.declared.kinds.CellKind.{CellKind}
 use Rattle.wp_base.specs.declared.kinds.CellKind.TheVariants as cell
 use Rattle.c_kinds.specs.Conversions.{holds_all}
 use Rattle.typed_prog.specs.declared.operators.Variable.TheVariants as variables
-use Rattle.acsl_truth.specs.States as state
-use Rattle.acsl_truth.specs.States.{Value, State, World}
-use Rattle.acsl_truth.specs.Truth.{Calls}
+use Rattle.c_runs.specs.TruthStates as state
+use Rattle.c_runs.specs.TruthStates.{Value, State, World}
+use Rattle.c_runs.specs.Truth.{Calls}
 use Rattle.qed_terms.specs.Tree.{Tree as Term, trees_of}
 use Rattle.qed_terms.specs.Meaning.{Values, World as Logic, Whole, Cells, meaning, meanings}
 use Rattle.acsl_encode.specs.Readings.{Pointer, at, Named, one, two, Global, integer_global, pointer_global, Called, Terms, Slot, whole, any_integer, pointer, home}

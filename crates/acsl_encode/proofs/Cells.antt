@@ -4,8 +4,8 @@ use Rattle.std.specs.Prelude.{ℤ, pos, ◌+ℤ◌, ◌*ℤ◌, Option, Some, No
 use Rattle.std.proofs.lemmas.Int.{ints}
 use Rattle.wp_base.specs.declared.kinds.CellKind.{CellKind}
 use Rattle.wp_base.specs.Blocks.{Table}
-use Rattle.acsl_truth.specs.States as state
-use Rattle.acsl_truth.specs.States.{Value, Span, span_of, is_good_cell, are_good_cells, is_valid, every_between, address_at}
+use Rattle.c_runs.specs.TruthStates as state
+use Rattle.c_runs.specs.TruthStates.{Value, Span, span_of, is_good_cell, are_good_cells, is_valid, every_between, address_at}
 use Rattle.qed_terms.specs.declared.head.Head.TheVariants as th
 use Rattle.qed_terms.specs.Tree.{Tree as Term, var}
 use Rattle.qed_terms.specs.Meaning as meant

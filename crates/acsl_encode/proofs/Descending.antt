@@ -11,9 +11,9 @@ use Rattle.c_kinds.specs.Models.{long_bits}
 use Rattle.typed_prog.specs.declared.operators.Comparison.TheVariants as cmp
 use Rattle.acsl_trees.specs.declared.heads.Head.TheVariants as hd
 use Rattle.acsl_trees.specs.Tree.{Tree, leaf, two, three}
-use Rattle.acsl_truth.specs.States.{Value, World, number, number_of, truth}
-use Rattle.acsl_truth.specs.Truth.{Calls, last_of, value_at, named, chosen, value, with_call, stepped}
-use Rattle.acsl_truth.specs.Recursion.{goes_down}
+use Rattle.c_runs.specs.TruthStates.{Value, World, number, number_of, truth}
+use Rattle.c_runs.specs.Truth.{Calls, last_of, value_at, named, chosen, value, with_call, stepped}
+use Rattle.c_runs.specs.Recursion.{goes_down}
 use Rattle.qed_terms.specs.Names.{is_name}
 use Rattle.qed_terms.specs.Tree.{Tree as Term, var}
 use Rattle.qed_terms.specs.Meaning.{Values, World as Logic}

@@ -12,7 +12,7 @@ use Rattle.acsl_trees.specs.declared.heads.Range.TheVariants as range
 use Rattle.acsl_trees.specs.declared.heads.Head.{Head}
 use Rattle.acsl_trees.specs.declared.heads.Head.TheVariants as hd
 use Rattle.acsl_trees.specs.Tree.{Tree, Trees, node, stop, more}
-use Rattle.acsl_truth.specs.Truth.{heads_of}
+use Rattle.c_runs.specs.Truth.{heads_of}
 use Rattle.qed_terms.specs.Tree.{Tree as Term, trees_of, num, var, and_of, or_of, imp_of, not_of}
 use Rattle.qed_terms.specs.declared.head.TermOp.TheVariants as op
 use Rattle.qed_terms.specs.declared.head.Head.{Head as TermHead}

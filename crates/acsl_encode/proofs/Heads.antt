@@ -13,8 +13,8 @@ use Rattle.acsl_trees.specs.declared.heads.Content.{Content}
 use Rattle.acsl_trees.specs.declared.heads.Content.TheVariants as content
 use Rattle.acsl_trees.specs.declared.heads.Label.{Label}
 use Rattle.acsl_trees.specs.declared.heads.Label.TheVariants as label
-use Rattle.acsl_truth.specs.States as state
-use Rattle.acsl_truth.specs.States.{Value, State, World, number_of, block_of, offset_of, is_true, is_negative, of_kind, state_at}
+use Rattle.c_runs.specs.TruthStates as state
+use Rattle.c_runs.specs.TruthStates.{Value, State, World, number_of, block_of, offset_of, is_true, is_negative, of_kind, state_at}
 use Rattle.qed_terms.specs.Tree.{Tree as Term, ite}
 use Rattle.qed_terms.specs.Meaning.{Values, World as Logic}
 use Rattle.acsl_encode.specs.Readings as reading

@@ -5,10 +5,10 @@ use Rattle.c_kinds.specs.Models.{convert}
 use Rattle.acsl_trees.specs.declared.heads.Label.{Label}
 use Rattle.acsl_trees.specs.declared.heads.Head.{Head}
 use Rattle.acsl_trees.specs.declared.heads.Head.TheVariants as hd
-use Rattle.acsl_truth.specs.States as state
-use Rattle.acsl_truth.specs.States.{Value, World, number_of, is_true}
-use Rattle.acsl_truth.specs.Truth as truth
-use Rattle.acsl_truth.specs.Truth.{computed, compare, compare_pointers, value_at, implied, same}
+use Rattle.c_runs.specs.TruthStates as state
+use Rattle.c_runs.specs.TruthStates.{Value, World, number_of, is_true}
+use Rattle.c_runs.specs.Truth as truth
+use Rattle.c_runs.specs.Truth.{computed, compare, compare_pointers, value_at, implied, same}
 use Rattle.qed_terms.specs.Tree.{Tree as Term, trees_of, not_of, and_of, or_of, imp_of}
 use Rattle.qed_terms.specs.Operators.{turned_bits, quotient}
 use Rattle.qed_terms.specs.Meaning.{Values, World as Logic, is_so, each_true, meanings}

@@ -3,7 +3,7 @@ use Rattle.std.proofs.Common.{◌≡◌, Bool, true, false, cond, refl, ap, arit
 use Rattle.std.specs.Prelude.{ℤ, pos, negsuc, ◌+ℤ◌, ◌-ℤ◌, ◌*ℤ◌, neg_ℤ}
 use Rattle.std.proofs.lemmas.Int.{ints}
 use Rattle.std.proofs.Math.IntN.{*ℤ-one, one}
-use Rattle.acsl_truth.specs.States.{number, truth, is_true}
+use Rattle.c_runs.specs.TruthStates.{number, truth, is_true}
 use Rattle.qed_terms.specs.Operators.{is_zero, is_equal, quotient}
 
 pub sum_two : (a b : ℤ) → a +ℤ (b +ℤ pos 0) ≡ a +ℤ b

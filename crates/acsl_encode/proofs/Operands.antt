@@ -1,9 +1,9 @@
 -- What operands are taken for, and what is there where each of them is.
 use Rattle.std.proofs.Common.{◌≡◌, ℕ, zero, suc, not, List, [], ◌∷◌, length, refl, sym, ap, ◌∙◌, subst}
 use Rattle.std.specs.Prelude.{Option, Some, None, ◌-◌}
-use Rattle.acsl_truth.specs.States as state
-use Rattle.acsl_truth.specs.States.{Value, number_of, is_true}
-use Rattle.acsl_truth.specs.Truth.{value_at, last_of}
+use Rattle.c_runs.specs.TruthStates as state
+use Rattle.c_runs.specs.TruthStates.{Value, number_of, is_true}
+use Rattle.c_runs.specs.Truth.{value_at, last_of}
 use Rattle.qed_terms.specs.Tree.{Tree as Term}
 use Rattle.qed_terms.specs.Meaning.{Values, World as Logic}
 use Rattle.acsl_encode.specs.Readings.{Pointer, Terms, integer, truth, address, variable, elements, region, nothing, Common}

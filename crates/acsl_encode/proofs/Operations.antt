@@ -16,10 +16,10 @@ use Rattle.typed_prog.specs.declared.operators.Arithmetic.{Arithmetic}
 use Rattle.typed_prog.specs.declared.operators.Arithmetic.TheVariants as ar
 use Rattle.typed_prog.specs.declared.operators.Comparison.{Comparison}
 use Rattle.typed_prog.specs.declared.operators.Comparison.TheVariants as cmp
-use Rattle.acsl_truth.specs.States as state
-use Rattle.acsl_truth.specs.States.{Value, State, World, number_of, block_of, offset_of, is_true, is_negative, may_read, of_kind, state_at}
-use Rattle.acsl_truth.specs.Truth as truth
-use Rattle.acsl_truth.specs.Truth.{computed, compare, compare_pointers, value_at, moved_by}
+use Rattle.c_runs.specs.TruthStates as state
+use Rattle.c_runs.specs.TruthStates.{Value, State, World, number_of, block_of, offset_of, is_true, is_negative, may_read, of_kind, state_at}
+use Rattle.c_runs.specs.Truth as truth
+use Rattle.c_runs.specs.Truth.{computed, compare, compare_pointers, value_at, moved_by}
 use Rattle.qed_terms.specs.Operators.{is_zero, is_equal, quotient}
 use Rattle.qed_terms.specs.Tree.{Tree as Term, num}
 use Rattle.qed_terms.specs.Meaning.{Values, World as Logic}

@@ -8,9 +8,9 @@ use Rattle.c_kinds.proofs.Converting.{le_test, both_true}
 use Rattle.c_kinds.specs.Models.{low, high}
 use Rattle.acsl_trees.specs.declared.heads.Range.{Range}
 use Rattle.acsl_trees.specs.declared.heads.Range.TheVariants as range
-use Rattle.acsl_truth.specs.States as state
-use Rattle.acsl_truth.specs.States.{Value, number_of, every_between, some_between}
-use Rattle.acsl_truth.specs.Truth.{least, greatest, beyond, short_of, value_at}
+use Rattle.c_runs.specs.TruthStates as state
+use Rattle.c_runs.specs.TruthStates.{Value, number_of, every_between, some_between}
+use Rattle.c_runs.specs.Truth.{least, greatest, beyond, short_of, value_at}
 use Rattle.qed_terms.specs.declared.head.Head.TheVariants as th
 use Rattle.qed_terms.specs.Tree.{Tree as Term}
 use Rattle.qed_terms.specs.Meaning.{Values, World as Logic, with_int, all_from, some_from}

@@ -10,7 +10,7 @@ use Rattle.c_kinds.specs.Models.{long_bits}
 use Rattle.typed_prog.specs.declared.operators.Variable.{Variable}
 use Rattle.typed_prog.specs.declared.operators.Variable.TheVariants as variables
 use Rattle.acsl_trees.specs.declared.heads.Label.TheVariants as label
-use Rattle.acsl_truth.specs.States.{State, World}
+use Rattle.c_runs.specs.TruthStates.{State, World}
 use Rattle.qed_terms.specs.declared.head.Sort.TheVariants as sort
 use Rattle.qed_terms.specs.Fresh.{Lacks}
 use Rattle.qed_terms.specs.Names.{is_name, is_memory_name}

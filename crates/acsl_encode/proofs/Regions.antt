@@ -6,8 +6,8 @@ use Rattle.std.proofs.lemmas.Bool.{and_parts, false≢true, eqb-true}
 use Rattle.std.proofs.lemmas.Int.{ints}
 use Rattle.wp_base.specs.declared.kinds.CellKind.{CellKind}
 use Rattle.c_kinds.proofs.Converting.{le_test, test_le}
-use Rattle.acsl_truth.specs.States as state
-use Rattle.acsl_truth.specs.States.{Value, covers, are_apart, all_apart}
+use Rattle.c_runs.specs.TruthStates as state
+use Rattle.c_runs.specs.TruthStates.{Value, covers, are_apart, all_apart}
 use Rattle.qed_terms.specs.Operators.{is_equal}
 use Rattle.qed_terms.specs.Tree.{Tree as Term}
 use Rattle.qed_terms.specs.Meaning.{Values, World as Logic, each_true}

@@ -11,8 +11,8 @@ use Rattle.typed_prog.specs.declared.operators.Comparison.TheVariants as cmp
 use Rattle.acsl_trees.specs.declared.heads.Head.TheVariants as hd
 use Rattle.acsl_trees.specs.Tree.{Tree, leaf, three, two as two_kids}
 use Rattle.acsl_expand.specs.Expansion.{Definition, definition_at}
-use Rattle.acsl_truth.specs.States.{Value, World, number, number_of}
-use Rattle.acsl_truth.specs.Truth.{last_of, value_at, kid, test_number, recursive_value, body_value, call_value, calls_first}
+use Rattle.c_runs.specs.TruthStates.{Value, World, number, number_of}
+use Rattle.c_runs.specs.Truth.{last_of, value_at, kid, test_number, recursive_value, body_value, call_value, calls_first}
 use Rattle.qed_terms.specs.Names.{is_name}
 use Rattle.qed_terms.specs.Tree.{Tree as Term}
 use Rattle.qed_terms.specs.Setting.{Logic, Apps, argument_at, are_arguments, descend, steps_of, uses, after, apps_from, no_apps, world_of}

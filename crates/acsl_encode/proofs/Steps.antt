@@ -7,9 +7,9 @@ use Rattle.wp_base.specs.declared.kinds.CellKind.{CellKind}
 use Rattle.acsl_trees.specs.declared.heads.Head.{Head}
 use Rattle.acsl_trees.specs.declared.heads.Head.TheVariants as hd
 use Rattle.acsl_trees.specs.Tree.{Tree, Trees, node, stop, more}
-use Rattle.acsl_truth.specs.States.{Value, World, number, number_of}
-use Rattle.acsl_truth.specs.Truth.{value_at, Calls, Env, last_of, heads_of, value, values}
-use Rattle.acsl_truth.specs.Recursion.{is_own, is_plain, last_kid, is_one, is_one_less, goes_down, all_go_down}
+use Rattle.c_runs.specs.TruthStates.{Value, World, number, number_of}
+use Rattle.c_runs.specs.Truth.{value_at, Calls, Env, last_of, heads_of, value, values}
+use Rattle.c_runs.specs.Recursion.{is_own, is_plain, last_kid, is_one, is_one_less, goes_down, all_go_down}
 use Rattle.qed_terms.specs.Meaning.{Values, World as Logic}
 use Rattle.acsl_encode.specs.Readings.{Called, Terms, integer, truth, address, variable, elements, region, nothing, Common, Reading}
 use Rattle.acsl_encode.specs.Encode as encode
@@ -19,7 +19,7 @@ use Rattle.acsl_encode.specs.Calls.{CallStands}
 use Rattle.acsl_encode.specs.WellFormed.{ReadingFits}
 use Rattle.acsl_encode.specs.Setting.{Known, with_called}
 use Rattle.acsl_encode.proofs.Operands.{AllMean, kid_means}
-use Rattle.acsl_truth.specs.States as state
+use Rattle.c_runs.specs.TruthStates as state
 use Rattle.acsl_encode.proofs.Annotated.{same_cells}
 use Rattle.acsl_encode.proofs.Regions.{region_means, separated_means}
 use Rattle.acsl_encode.proofs.Nodes.{applied_means, chain_means}

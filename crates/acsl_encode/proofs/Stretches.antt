@@ -9,8 +9,8 @@ use Rattle.wp_base.specs.Blocks.{to_nat}
 use Rattle.c_kinds.proofs.Converting.{le_test, test_le}
 use Rattle.qed_terms.specs.Operators.{is_equal, is_zero}
 use Rattle.qed_terms.specs.Meaning.{all_from, some_from}
-use Rattle.acsl_truth.specs.States as state
-use Rattle.acsl_truth.specs.States.{Value, Span, is_among, covers, are_outside, are_apart, address_at, count_between}
+use Rattle.c_runs.specs.TruthStates as state
+use Rattle.c_runs.specs.TruthStates.{Value, Span, is_among, covers, are_outside, are_apart, address_at, count_between}
 use Rattle.acsl_encode.specs.Meaning.{is_inside, Avoids, IsStretch}
 
 -- ---- tests

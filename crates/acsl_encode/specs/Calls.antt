@@ -7,9 +7,9 @@ use Rattle.c_kinds.specs.Models.{holds}
 use Rattle.typed_prog.specs.declared.operators.Variable.{Variable}
 use Rattle.typed_prog.specs.declared.operators.Variable.TheVariants as variable
 use Rattle.acsl_trees.specs.declared.heads.Label.{Label}
-use Rattle.acsl_truth.specs.States as state
-use Rattle.acsl_truth.specs.States.{Value, State, World, is_negative, state_at}
-use Rattle.acsl_truth.specs.Truth.{Calls}
+use Rattle.c_runs.specs.TruthStates as state
+use Rattle.c_runs.specs.TruthStates.{Value, State, World, is_negative, state_at}
+use Rattle.c_runs.specs.Truth.{Calls}
 use Rattle.qed_terms.specs.Memory.{Memory}
 use Rattle.qed_terms.specs.Meaning as meant
 use Rattle.qed_terms.specs.Meaning.{Whole, Cells}

@@ -5,9 +5,9 @@ use Rattle.wp_base.specs.declared.kinds.CellKind.{CellKind}
 use Rattle.typed_prog.specs.declared.operators.Variable.{Variable}
 use Rattle.acsl_trees.specs.Tree.{Tree}
 use Rattle.acsl_expand.specs.Expansion.{Definition}
-use Rattle.acsl_truth.specs.States as state
-use Rattle.acsl_truth.specs.States.{Value, World, number_of}
-use Rattle.acsl_truth.specs.Truth.{calls_of, named, holds, value}
+use Rattle.c_runs.specs.TruthStates as state
+use Rattle.c_runs.specs.TruthStates.{Value, World, number_of}
+use Rattle.c_runs.specs.Truth.{calls_of, named, holds, value}
 use Rattle.qed_terms.specs.Tree.{Tree as Term}
 use Rattle.qed_terms.specs.Meaning.{Values, World as Logic}
 use Rattle.acsl_encode.specs.Readings.{Terms, integer, truth, address, variable, elements, region, nothing, Pointer, Slot, whole, any_integer, pointer, home, absent, Seen}

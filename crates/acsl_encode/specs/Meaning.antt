@@ -7,10 +7,10 @@ use Rattle.qed_terms.specs.Operators.{is_equal}
 use Rattle.c_kinds.specs.declared.models.Machdep.{Machdep}
 use Rattle.c_kinds.specs.Models.{holds, long_bits}
 use Rattle.typed_prog.specs.declared.operators.Variable.{Variable}
-use Rattle.acsl_truth.specs.States as state
+use Rattle.c_runs.specs.TruthStates as state
 use Rattle.typed_prog.specs.declared.operators.Variable.TheVariants as variable_of
 use Rattle.acsl_trees.specs.declared.heads.Label.{Label}
-use Rattle.acsl_truth.specs.States.{Value, State, World, is_negative, state_at}
+use Rattle.c_runs.specs.TruthStates.{Value, State, World, is_negative, state_at}
 use Rattle.qed_terms.specs.Tree.{Tree as Term}
 use Rattle.qed_terms.specs.Memory.{Memory, load}
 use Rattle.qed_terms.specs.Meaning as meant

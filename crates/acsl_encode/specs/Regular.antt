@@ -2,8 +2,8 @@
 use Rattle.std.specs.Prelude.{◌≡◌, ℕ, true, List, [], ◌∷◌, ◌++◌, length}
 use Rattle.acsl_trees.specs.Tree.{Tree}
 use Rattle.acsl_expand.specs.Expansion.{Definition, definition_at}
-use Rattle.acsl_truth.specs.Truth.{calls_of}
-use Rattle.acsl_truth.specs.Recursion.{IsRecursion}
+use Rattle.c_runs.specs.Truth.{calls_of}
+use Rattle.c_runs.specs.Recursion.{IsRecursion}
 use Rattle.qed_terms.specs.Fresh.{Lacks}
 use Rattle.qed_terms.specs.Names.{is_name}
 use Rattle.qed_terms.specs.Setting.{all_differ, same_param, world_of}

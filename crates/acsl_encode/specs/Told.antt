@@ -14,7 +14,7 @@ use Rattle.acsl_trees.specs.declared.heads.Head.{Head}
 use Rattle.acsl_trees.specs.declared.heads.Head.TheVariants as h
 use Rattle.acsl_trees.specs.Tree.{Tree, Trees, node, stop, more}
 use Rattle.acsl_expand.specs.Expansion.{Definition, definition_at}
-use Rattle.acsl_truth.specs.Truth.{heads_of}
+use Rattle.c_runs.specs.Truth.{heads_of}
 use Rattle.acsl_encode.specs.Readings.{Named, Global, integer_global, pointer_global, Called}
 use Rattle.acsl_encode.specs.Setting.{numbers_in, pointers_in}
 

@@ -35,7 +35,7 @@ use Rattle.acsl_terms.specs.Terms.{typed}
 use Rattle.acsl_preds.specs.Binders.{is_new}
 use Rattle.acsl_preds.specs.Preds.{typed_pred}
 use Rattle.acsl_definitions.specs.Definitions.{around_body, name_checked, spelled_type, result_by, has_form, form_checked, param_type, param_typed, params_typed, no_params, header_typed, function_typed, value_typed, or_unknown, body_by, no_nodes, body_typed, definition_of, while_read, with_definition, defined, header_of, definition_typed}
-use Rattle.acsl_truth.specs.Laws.{Signatures, is_well_formed, tests_number, is_definition}
+use Rattle.c_runs.specs.TruthLaws.{Signatures, is_well_formed, tests_number, is_definition}
 use Rattle.acsl_same_meaning.specs.Trees.{Signed, MayLabel}
 use Rattle.acsl_same_meaning.specs.Definitions.{IsOneMore}
 use Rattle.acsl_well_typed.specs.Ranges.{AreNumbered}

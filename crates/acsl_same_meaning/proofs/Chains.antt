@@ -11,8 +11,8 @@ use Rattle.acsl_rules.specs.Sorts.{is_null, alike, is_pointer}
 use Rattle.acsl_rules.specs.Operators.{compare_by, are_numbers, ordered, are_equatable, equated}
 use Rattle.acsl_rules.specs.Chains.{onto, all_valued, first_op, other_ops, is_equality, null, null_beside, is_beside, nulls_behind, with_nulls, both_or_neither, comparison_of, link_by, link, links, chained, chain}
 use Rattle.acsl_rules.specs.Laws.{Holds}
-use Rattle.acsl_truth.specs.Truth.{heads_of}
-use Rattle.acsl_truth.specs.Laws.{Signatures, are_links, are_well_formed}
+use Rattle.c_runs.specs.Truth.{heads_of}
+use Rattle.c_runs.specs.TruthLaws.{Signatures, are_links, are_well_formed}
 use Rattle.acsl_same_meaning.proofs.Answers.{after_holds}
 use Rattle.acsl_same_meaning.proofs.Operators.{both, only, Good, IsGood, from_value}
 

@@ -26,7 +26,7 @@ use Rattle.acsl_names.specs.Counting.{with_node}
 use Rattle.acsl_terms.specs.Terms.{typed}
 use Rattle.acsl_preds.specs.Preds.{all_typed, onto as behind_those, chain_typed}
 use Rattle.acsl_preds.specs.Ranges.{last_of, front_of, linked, back_of}
-use Rattle.acsl_truth.specs.Laws.{Signatures}
+use Rattle.c_runs.specs.TruthLaws.{Signatures}
 use Rattle.acsl_same_meaning.specs.Trees.{Signed, MayLabel}
 use Rattle.acsl_same_meaning.proofs.Answers.{after_holds, after_any, closed_holds, Of}
 use Rattle.acsl_same_meaning.proofs.Operators.{Good, IsGood, valued_fits}

@@ -15,7 +15,7 @@ use Rattle.acsl_notes.specs.Notes.{params_scope}
 use Rattle.acsl_typing.specs.Annotations as a
 use Rattle.acsl_typing.specs.Annotations.{before_of, second, contract_checked, around_contract, has_contract, contract_of, enclosing_of, notes_in, next_body, notes_of, function_annotated, definition_annotated, part_by, part_annotated, parts_annotated, finished, file_annotated}
 use Rattle.acsl_annotated.specs.Annotated.{is_recursive_by, meant}
-use Rattle.acsl_truth.specs.Laws.{Signatures, is_definition}
+use Rattle.c_runs.specs.TruthLaws.{Signatures, is_definition}
 use Rattle.acsl_same_meaning.specs.Trees.{Signed}
 use Rattle.acsl_same_meaning.specs.Definitions.{IsOneMore}
 use Rattle.acsl_well_typed.specs.Clauses.{All, ItemBinds}

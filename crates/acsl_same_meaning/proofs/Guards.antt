@@ -32,7 +32,7 @@ use Rattle.acsl_preds.specs.declared.binders.Over.TheVariants as over
 use Rattle.acsl_preds.specs.Binders.{inside, with_bound, is_new, over_kind, over_type, over_guard, over_named, over_by, binder_over, binders}
 use Rattle.acsl_preds.specs.Preds.{chain_typed, typed_pred}
 use Rattle.acsl_preds.specs.Ranges.{or_truth, low_of, high_of}
-use Rattle.acsl_truth.specs.Laws.{Signatures}
+use Rattle.c_runs.specs.TruthLaws.{Signatures}
 use Rattle.acsl_same_meaning.specs.Trees.{Signed, MayLabel}
 use Rattle.acsl_well_typed.specs.Ranges.{AreNumbered}
 use Rattle.acsl_same_meaning.proofs.Answers.{after_holds, after_any, holds_both, Of, answered}

@@ -27,7 +27,7 @@ use Rattle.acsl_clauses.specs.Items as i
 use Rattle.acsl_clauses.specs.Typed as o
 use Rattle.acsl_clauses.specs.Clauses.{no_names, at_start, site_of, claim_typed, integer_typed, measure_typed, entry_typed, entries_typed, or_none, assigns_typed, counted_by, behavior_named, behavior_begins, behavior_typed, together_numbers, together_typed, clause_typed, clauses_typed, known_at_start, items_typed, contract_typed, loop_typed, assertion_typed}
 use Rattle.acsl_notes.specs.Notes.{of_loop, assertion, Enclosing, Noted, opened, with_object, with_locals, around_at, with_loop, with_assertion, noted, all_noted, at_start as noted_at_start, body_noted}
-use Rattle.acsl_truth.specs.Laws.{Signatures}
+use Rattle.c_runs.specs.TruthLaws.{Signatures}
 use Rattle.acsl_same_meaning.specs.Trees.{Signed, MayLabel}
 use Rattle.acsl_well_typed.specs.Clauses.{All, ItemBinds}
 use Rattle.acsl_well_typed.specs.Files.{StmtBinds, StmtsBind}

@@ -8,8 +8,8 @@ use Rattle.acsl_notes.specs.Notes as n
 use Rattle.acsl_typing.specs.Annotations.{Annotation, Annotations, of_function, of_definition, file_annotated}
 use Rattle.acsl_expand.specs.Expansion.{Definition, definition_at, expanded}
 use Rattle.acsl_annotated.specs.Annotated.{meant, meant_from, params_by, said_expanded, clause_expanded, note_expanded, body_expanded, items_from, all_expanded, file_expanded}
-use Rattle.acsl_truth.specs.Laws.{Signatures, is_definition, are_definitions, Expands}
-use Rattle.acsl_truth.proofs.Definitions.{same_meaning}
+use Rattle.c_runs.specs.TruthLaws.{Signatures, is_definition, are_definitions, Expands}
+use Rattle.c_runs.proofs.Definitions.{same_meaning}
 use Rattle.acsl_same_meaning.specs.Trees.{Signed}
 use Rattle.acsl_well_typed.specs.Clauses.{All}
 use Rattle.acsl_same_meaning.specs.Laws.{is_term_by, signatures_of, meanings, IsWellFormed, SaidFits, ClauseFits, NoteFits, AnnotationFits, FileFits, FilesAreWellFormed, Each, SameValue, SameSaid, SameClause, SameNote, SameAnnotation, MeanTheSame, FilesMeanTheSame}

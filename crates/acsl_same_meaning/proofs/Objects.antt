@@ -25,7 +25,7 @@ use Rattle.acsl_rules.specs.Operators.{sum, dereferenced, dereferenced_value}
 use Rattle.acsl_rules.specs.Objects.{indexed_values, indexed_by, indexed, member_named, member_by, member_of, dotted_by, dotted, field_by, field, behind_by, behind_at, behind_base, elements_by, elements_base, bounded, elements, behind, region_by, target_content, region_at, region_of, pointed}
 use Rattle.acsl_rules.specs.Contexts.{to_kind, to_pointer, cast_by, cast_value, cast, object_at, labelled_by, labelled, pointer_passed, typed_passed, passed_value, passed}
 use Rattle.acsl_rules.specs.Laws.{Holds}
-use Rattle.acsl_truth.specs.Laws.{Signatures}
+use Rattle.c_runs.specs.TruthLaws.{Signatures}
 use Rattle.acsl_same_meaning.proofs.Answers.{after_holds, if_holds}
 use Rattle.acsl_same_meaning.proofs.Operators.{only, pair, triple, Good, IsGood, Made, from_value, from_integer, integer_fits, integer_value_fits, sum_fits, dereferenced_fits, dereferenced_value_fits}
 

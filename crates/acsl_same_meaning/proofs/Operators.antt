@@ -25,7 +25,7 @@ use Rattle.acsl_rules.specs.Values.{valued, valued_by, object_value, read_by, in
 use Rattle.acsl_rules.specs.Operators.{followed_by, dereferenced_by, dereferenced_value, dereferenced, address_of, address_of_object, address_by_label, address_by_sort, address, unary, arithmetic, both_may_be_integers, numbers, number_sort, offset_by, offset, sum_by, sum, apart_by, taken_by, difference_by, difference, compare_by, compared, are_numbers, are_equatable, ordered, order, equated, equality, binary_values, binary}
 use Rattle.acsl_rules.specs.Choices.{arms, conditional_by, conditional_values, conditional}
 use Rattle.acsl_rules.specs.Laws.{Holds}
-use Rattle.acsl_truth.specs.Laws.{Signatures, is_well_formed}
+use Rattle.c_runs.specs.TruthLaws.{Signatures, is_well_formed}
 use Rattle.acsl_same_meaning.specs.Trees.{Fits, OperandFits, OperatorsKeep}
 use Rattle.acsl_same_meaning.proofs.Answers.{after_holds, if_holds}
 

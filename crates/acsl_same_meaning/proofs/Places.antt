@@ -22,7 +22,7 @@ use Rattle.acsl_terms.specs.Steps.{local_of}
 use Rattle.acsl_terms.specs.Terms.{typed}
 use Rattle.acsl_places.specs.Spans.{Span, Ranged, indexed_range, added_range, starred_range}
 use Rattle.acsl_places.specs.Places.{may_end, end_checked, end_typed, ends_typed, reach, range_typed, entry_by, is_own_parameter, region_with, whole_array, region_by, entry_region, entry, Aim, pointer, addresses, aimed_by, aimed, all_aimed, content_by, content_of, region_of, valid_at, region_tree, region_trees, separated_at, valid_typed, separated_typed}
-use Rattle.acsl_truth.specs.Laws.{Signatures, are_well_formed}
+use Rattle.c_runs.specs.TruthLaws.{Signatures, are_well_formed}
 use Rattle.acsl_same_meaning.specs.Trees.{Signed, MayLabel}
 use Rattle.acsl_same_meaning.proofs.Answers.{after_holds, if_holds, closed_holds, Of}
 use Rattle.acsl_same_meaning.proofs.Operators.{both, only, Good, IsGood, Made}

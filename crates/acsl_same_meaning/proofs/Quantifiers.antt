@@ -8,7 +8,7 @@ use Rattle.acsl_trees.specs.Tree.{Tree, node, Trees, stop, more, list_of}
 use Rattle.acsl_preds.specs.declared.binders.Over.{Over}
 use Rattle.acsl_preds.specs.declared.binders.Over.TheVariants as over
 use Rattle.acsl_preds.specs.Ranges.{conjuncts, conjuncts_in, is_taken_by, joined, kept_with, kept, kids_of, or_truth, low_end, high_end, over_one, over_all, is_implication, under, every_under, pair_of, sides_of, every_sides, head_of, every, some, quantified}
-use Rattle.acsl_truth.specs.Laws.{Signatures, is_well_formed, are_well_formed}
+use Rattle.c_runs.specs.TruthLaws.{Signatures, is_well_formed, are_well_formed}
 use Rattle.acsl_same_meaning.proofs.Operators.{only, pair, triple, Good}
 
 -- as many names as stand under these binders

@@ -35,8 +35,8 @@ use Rattle.acsl_names.specs.Counting.{with_node}
 use Rattle.acsl_terms.specs.Leaves.{literal, number}
 use Rattle.acsl_terms.specs.Terms.{typed}
 use Rattle.acsl_definitions.specs.Definitions.{function_typed, value_typed}
-use Rattle.acsl_truth.specs.Truth.{head_of, kid}
-use Rattle.acsl_truth.specs.Laws.{is_comparison, is_number, tests_number}
+use Rattle.c_runs.specs.Truth.{head_of, kid}
+use Rattle.c_runs.specs.TruthLaws.{is_comparison, is_number, tests_number}
 use Rattle.acsl_same_meaning.proofs.Answers.{after_holds, after_any, if_holds, closed_holds, Of}
 
 -- ---- values are no objects

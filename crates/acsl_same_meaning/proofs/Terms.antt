@@ -46,8 +46,8 @@ use Rattle.acsl_terms.specs.Leaves.{closed, leafed, misshapen, literal, bound_by
 use Rattle.acsl_terms.specs.Steps.{local_of, may_address, prefixed, cast_type, cast_with, labelled_by}
 use Rattle.acsl_terms.specs.Calls.{counted_call, sorted_call, call_of, called_by, called_at, call_tree, recursion, is_itself, goes_down}
 use Rattle.acsl_terms.specs.Terms.{ForParams, recursive_call, expanded_count, expanded_call, call_by, as_term, alone_tree, alone_call, meant, with_name_counted, plainly_named, named, under_label, joined, typed, typed_for, typed_all}
-use Rattle.acsl_truth.specs.Laws as law
-use Rattle.acsl_truth.specs.Laws.{Signatures, are_well_formed}
+use Rattle.c_runs.specs.TruthLaws as law
+use Rattle.c_runs.specs.TruthLaws.{Signatures, are_well_formed}
 use Rattle.acsl_same_meaning.specs.Trees.{Signed, MayLabel, TermsAreWellFormed}
 use Rattle.acsl_same_meaning.proofs.Answers.{after_holds, after_any, if_holds, closed_holds, Of}
 use Rattle.acsl_same_meaning.proofs.Operators.{both, only, Good, IsGood, Made, unary_fits, binary_fits, conditional_fits}

@@ -31,7 +31,7 @@ use Rattle.acsl_terms.specs.Terms.{typed, typed_for, typed_all, predicate_call}
 use Rattle.acsl_preds.specs.declared.binders.Over.{Over}
 use Rattle.acsl_preds.specs.Binders.{inside, with_bound, is_new, over_by, binder_over, binders}
 use Rattle.acsl_preds.specs.Preds.{all_typed, onto, chain_typed, let_by, let_tree, labelled, number, binders_typed, place_at, typed_pred}
-use Rattle.acsl_truth.specs.Laws.{Signatures}
+use Rattle.c_runs.specs.TruthLaws.{Signatures}
 use Rattle.acsl_same_meaning.specs.Trees.{Signed, MayLabel}
 use Rattle.acsl_well_typed.specs.Ranges.{BindsOne, EachBinds, AreNumbered}
 use Rattle.acsl_same_meaning.proofs.Answers.{after_holds, after_any, after_with, ended_holds, ended_is, closed_holds, Of}

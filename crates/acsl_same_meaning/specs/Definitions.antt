@@ -8,7 +8,7 @@ use Rattle.acsl_names.specs.declared.names.Definition.{Definition}
 use Rattle.acsl_names.specs.declared.names.Definitions.{Definitions}
 use Rattle.acsl_names.specs.Sites.{Before}
 use Rattle.acsl_definitions.specs.Definitions.{definition_typed}
-use Rattle.acsl_truth.specs.Laws.{Signatures, is_definition}
+use Rattle.c_runs.specs.TruthLaws.{Signatures, is_definition}
 use Rattle.acsl_same_meaning.specs.Trees.{Signed}
 use Rattle.acsl_same_meaning.specs.Spelled.{IsSpelled}
 

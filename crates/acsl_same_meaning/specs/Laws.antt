@@ -9,9 +9,9 @@ use Rattle.acsl_notes.specs.Notes as n
 use Rattle.acsl_typing.specs.Annotations.{Annotation, Annotations, of_function, of_definition, file_annotated}
 use Rattle.acsl_expand.specs.Expansion.{Definition}
 use Rattle.acsl_annotated.specs.Annotated.{meant_from, params_by, file_expanded}
-use Rattle.acsl_truth.specs.States.{World}
-use Rattle.acsl_truth.specs.Truth.{Env, value, calls_of}
-use Rattle.acsl_truth.specs.Laws.{Signatures, is_well_formed, are_definitions}
+use Rattle.c_runs.specs.TruthStates.{World}
+use Rattle.c_runs.specs.Truth.{Env, value, calls_of}
+use Rattle.c_runs.specs.TruthLaws.{Signatures, is_well_formed, are_definitions}
 use Rattle.acsl_well_typed.specs.Clauses.{All}
 use Rattle.acsl_same_meaning.specs.Spelled.{FileIsSpelled}
 

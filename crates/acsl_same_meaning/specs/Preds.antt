@@ -7,7 +7,7 @@ use Rattle.acsl_names.specs.declared.names.Reading.{Reading}
 use Rattle.acsl_names.specs.declared.counting.Count.{Count}
 use Rattle.acsl_names.specs.Names.{Around}
 use Rattle.acsl_preds.specs.Preds.{typed_pred}
-use Rattle.acsl_truth.specs.Laws.{Signatures}
+use Rattle.c_runs.specs.TruthLaws.{Signatures}
 use Rattle.acsl_same_meaning.specs.Trees.{Fits, Signed, MayLabel}
 use Rattle.acsl_well_typed.specs.Ranges.{EachBinds, AreNumbered}
 

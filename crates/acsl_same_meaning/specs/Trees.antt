@@ -18,7 +18,7 @@ use Rattle.acsl_names.specs.declared.counting.Count.{Count}
 use Rattle.acsl_names.specs.Names.{Around}
 use Rattle.acsl_names.specs.Labels.{label_at, old_at}
 use Rattle.acsl_terms.specs.Terms.{typed}
-use Rattle.acsl_truth.specs.Laws.{Signatures, is_well_formed}
+use Rattle.c_runs.specs.TruthLaws.{Signatures, is_well_formed}
 
 -- where labels and binders may stand or not, by the signatures of the definitions, and with so many names around
 abbrev pub Fits : (labels binders : Bool) → Signatures → (around : ℕ) → Tree → Type 0

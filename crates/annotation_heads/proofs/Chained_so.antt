@@ -7,7 +7,7 @@ use Rattle.acsl_trees.specs.declared.heads.Head.TheVariants as hd
 use Rattle.acsl_trees.specs.declared.tree.Tree.{Tree as Code, out-Tree, roll-out-Tree}
 use Rattle.acsl_trees.specs.Tree.{node, trees_of, view_tree, view_trees}
 use Rattle.acsl_trees.proofs.Equations.{view_made}
-use Rattle.acsl_truth.specs.Truth.{heads_of, head_of}
+use Rattle.c_runs.specs.Truth.{heads_of, head_of}
 use Rattle.qed_terms.specs.declared.term.Formula.{Formula}
 use Rattle.qed_terms.specs.declared.term.Formula.TheVariants as formula
 use Rattle.qed_terms.proofs.Equations.{formula_tree-True}

@@ -3,7 +3,7 @@ ghost use Rattle.std.specs.Prelude.{◌≡◌, ◌<◌, ◌+◌, map, drop, leng
 ghost use Rattle.std.specs.Option.{option_map};
 ghost use Rattle.acsl_encode.specs.Encode as spec;
 ghost use Rattle.acsl_trees.specs.Tree.{trees_of, view_trees};
-ghost use Rattle.acsl_truth.specs.Truth.{heads_of};
+ghost use Rattle.c_runs.specs.Truth.{heads_of};
 ghost use Rattle.annotation_heads.specs.Chained as chained;
 ghost use Rattle.acsl_encode.specs.Readings.{truth};
 ghost use Rattle.annotation_heads.specs.View.{view_terms};

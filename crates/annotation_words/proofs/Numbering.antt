@@ -11,7 +11,7 @@ use Rattle.acsl_trees.specs.declared.heads.Range.{Range}
 use Rattle.acsl_trees.specs.declared.tree.Tree.{Tree as Code, out-Tree}
 use Rattle.acsl_trees.specs.Tree.{trees_of, view_tree, view_trees}
 use Rattle.annotation_heads.proofs.Chained_so.{view_whole, head_is}
-use Rattle.acsl_truth.specs.Truth.{heads_of, head_of}
+use Rattle.c_runs.specs.Truth.{heads_of, head_of}
 use Rattle.qed_terms.specs.Fresh.{numeral}
 use Rattle.acsl_encode.specs.Binders.{Spelled, spelled_at, bound_before, binder_name}
 use Rattle.acsl_encode.specs.Encode.{is_range, own_binders, binders, all_binders}

@@ -6,7 +6,7 @@ ghost use Rattle.acsl_encode.specs.Binders as spec;
 ghost use Rattle.acsl_encode.specs.Encode as encode;
 ghost use Rattle.acsl_encode.specs.Readings.{integer};
 ghost use Rattle.acsl_trees.specs.Tree.{trees_of, view_tree, view_trees};
-ghost use Rattle.acsl_truth.specs.Truth.{heads_of};
+ghost use Rattle.c_runs.specs.Truth.{heads_of};
 ghost use Rattle.annotation_words.specs.Encoded.{names_in};
 ghost use Rattle.annotation_heads.specs.Nodes.{quantifier};
 ghost use Rattle.annotation_heads.specs.View.{view_ends, view_terms};

@@ -6,7 +6,7 @@ ghost use Rattle.acsl_encode.specs.Readings.{address};
 ghost use Rattle.program_trees.specs.View.{view_facts};
 ghost use Rattle.qed_terms.specs.Tree.{num};
 ghost use Rattle.acsl_trees.specs.Tree.{trees_of, view_trees};
-ghost use Rattle.acsl_truth.specs.Truth.{heads_of};
+ghost use Rattle.c_runs.specs.Truth.{heads_of};
 ghost use Rattle.annotation_words.specs.Parts as parts;
 ghost use Rattle.annotation_heads.specs.View.{view_terms};
 ghost use Rattle.annotation_words.specs.View.{view_reading, view_seen};

@@ -2,7 +2,7 @@
 use Rattle.std.proofs.Common.{◌≡◌, List, [], ◌∷◌, Option, Some, None}
 use Rattle.acsl_trees.specs.declared.heads.Head.TheVariants as head
 use Rattle.acsl_trees.specs.Tree.{Trees, node, stop, more}
-use Rattle.acsl_truth.specs.Truth.{heads_of}
+use Rattle.c_runs.specs.Truth.{heads_of}
 use Rattle.acsl_encode.specs.Readings.{Terms, region}
 use Rattle.acsl_encode.specs.Encode as encode
 use Rattle.acsl_encode.specs.Encode.{as_integer, as_pointer, linked, all_linked, in_chain, pairs_apart, apart_all}

@@ -7,7 +7,7 @@ use Rattle.acsl_trees.specs.declared.heads.Range.TheVariants as range
 use Rattle.acsl_trees.specs.declared.heads.Head.{Head}
 use Rattle.acsl_trees.specs.declared.heads.Head.TheVariants as head
 use Rattle.acsl_trees.specs.Tree.{Tree, Trees, node, stop, more}
-use Rattle.acsl_truth.specs.Truth.{heads_of}
+use Rattle.c_runs.specs.Truth.{heads_of}
 use Rattle.acsl_names.specs.declared.names.Definition.{Definition}
 use Rattle.qed_terms.specs.declared.head.Head.TheVariants as th
 use Rattle.qed_terms.specs.declared.head.TermOp.TheVariants as op

@@ -3,7 +3,7 @@ use Rattle.std.proofs.Common.{◌≡◌, List, [], ◌∷◌, Option, Some, None
 use Rattle.acsl_trees.specs.declared.heads.Head.{Head}
 use Rattle.acsl_trees.specs.declared.heads.Head.TheVariants as head
 use Rattle.acsl_trees.specs.Tree.{Tree, Trees, stop, more}
-use Rattle.acsl_truth.specs.Truth.{head_of}
+use Rattle.c_runs.specs.Truth.{head_of}
 use Rattle.acsl_encode.specs.Readings.{Terms}
 use Rattle.acsl_well_typed.specs.WellTyped.{What, a_region, a_linked_integer, a_linked_pointer}
 use Rattle.annotations_encoded.specs.Sights.{Sights}

@@ -15,9 +15,9 @@ use Rattle.typed_prog.specs.declared.operators.Arithmetic.{Arithmetic}
 use Rattle.typed_prog.specs.declared.operators.Arithmetic.TheVariants as ar
 use Rattle.typed_prog.specs.declared.operators.Comparison.{Comparison}
 use Rattle.typed_prog.specs.declared.operators.Comparison.TheVariants as cmp
-use Rattle.acsl_truth.specs.Told.{is_zero, is_equal}
-use Rattle.acsl_truth.specs.States.{number}
-use Rattle.acsl_truth.specs.Truth.{compare}
+use Rattle.c_runs.specs.TruthTold.{is_zero, is_equal}
+use Rattle.c_runs.specs.TruthStates.{number}
+use Rattle.c_runs.specs.Truth.{compare}
 use Rattle.c_runs.specs.Operators.{Undefined, overflow, divzero, shift, Val, is, where_true, truth_number, within, fits, may_shift, may_divide, arithmetic, computed, negated, complement}
 use Rattle.c_runs.specs.Laws.{on_constants, test_of_constants, number_in, may_be_second, OperatorsAreThoseOfConstants}
 use Rattle.c_runs.proofs.Numbers.{equal_is, zero_is, natural_held, signed_quotient, unsigned_quotient}

@@ -14,7 +14,7 @@ use Rattle.c_kinds.specs.declared.models.Machdep.TheVariants as model
 use Rattle.c_kinds.specs.Models.{low, high, holds}
 use Rattle.c_kinds.proofs.Converting.{test_le, le_test, both_true}
 use Rattle.c_kinds.proofs.Sizes.{narrow, not_negative}
-use Rattle.acsl_truth.specs.Told.{is_zero, is_equal}
+use Rattle.c_runs.specs.TruthTold.{is_zero, is_equal}
 
 -- ---- tests
 

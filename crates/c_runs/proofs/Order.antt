@@ -1,7 +1,7 @@
 -- What is said of several behaviors, in the order in which it is tested.
 use Rattle.std.proofs.Common.{◌≡◌, Bool, true, false, List, [], ◌∷◌, ◌++◌, Option, Some, None, refl, sym, ap, ◌∙◌}
 use Rattle.std.specs.List.{filter}
-use Rattle.acsl_truth.specs.States.{World}
+use Rattle.c_runs.specs.TruthStates.{World}
 use Rattle.c_runs.specs.Program.{Behavior, Together, Contract, Facts}
 use Rattle.c_runs.specs.Claims.{Stop, or_stop, together_holds, all_together, says_complete, says_disjoint, entered_well}
 use Rattle.c_runs.specs.Laws.{first_broken, CompleteComesFirst}

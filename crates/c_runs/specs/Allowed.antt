@@ -1,8 +1,8 @@
 -- What a function may change by its clauses (ACSL 2.3.2), in the words of annotations: what a whole run changes, beside each single write.
 use Rattle.std.specs.Prelude.{◌≡◌, ℕ, Bool, true, false, List, [], ◌∷◌, Option, Some, None}
-use Rattle.acsl_truth.specs.Told.{Tree}
-use Rattle.acsl_truth.specs.States.{Value, State, World}
-use Rattle.acsl_truth.specs.Allowed.{Allows}
+use Rattle.c_runs.specs.TruthTold.{Tree}
+use Rattle.c_runs.specs.TruthStates.{Value, State, World}
+use Rattle.c_runs.specs.TruthAllowed.{Allows}
 use Rattle.c_runs.specs.Program.{Behavior, Contract, Facts}
 use Rattle.c_runs.specs.States.{Memory, seen_by_contract}
 use Rattle.c_runs.specs.Claims.{at_entry, is_assumed, regions_of, parts_of}

@@ -1,6 +1,6 @@
 -- Calls of functions, however their bodies are run (C11 6.5.2.2, 6.8.6.4; ACSL 2.3).
 use Rattle.std.specs.Prelude.{ℕ, zero, suc, Bool, true, false, if◌then◌else◌, ℤ, pos, List, [], ◌∷◌, Option, Some, None}
-use Rattle.acsl_truth.specs.States.{Value, number}
+use Rattle.c_runs.specs.TruthStates.{Value, number}
 use Rattle.c_runs.specs.Program.{Contract, Function, Facts, Program}
 use Rattle.c_runs.specs.States.{World, Memory, Here}
 use Rattle.c_runs.specs.Operators.{Undefined, noreturn, Val, is, wrong}

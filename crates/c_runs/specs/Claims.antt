@@ -3,10 +3,10 @@ use Rattle.std.specs.Prelude.{ℕ, nat_le, Bool, true, false, not, ◌&&◌, ◌
 use Rattle.std.specs.List.{filter, list_all, list_any}
 use Rattle.wp_base.specs.declared.kinds.CellKind.{CellKind}
 use Rattle.wp_base.specs.Blocks.{count}
-use Rattle.acsl_truth.specs.Told.{Tree}
-use Rattle.acsl_truth.specs.States.{Value, number, State, World, number_of, is_negative}
-use Rattle.acsl_truth.specs.Truth as truth
-use Rattle.acsl_truth.specs.Allowed.{lies_in, is_named}
+use Rattle.c_runs.specs.TruthTold.{Tree}
+use Rattle.c_runs.specs.TruthStates.{Value, number, State, World, number_of, is_negative}
+use Rattle.c_runs.specs.Truth as truth
+use Rattle.c_runs.specs.TruthAllowed.{lies_in, is_named}
 use Rattle.c_runs.specs.Program.{Claim, Measure, Behavior, Together, Contract, Loop, Facts}
 use Rattle.c_runs.specs.States as state
 use Rattle.c_runs.specs.States.{Memory, Here, Granted, seen, seen_by_contract, hidden}

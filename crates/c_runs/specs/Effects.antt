@@ -15,7 +15,7 @@ use Rattle.typed_prog.specs.declared.operators.Variable.TheVariants as variable
 use Rattle.typed_prog.specs.declared.operators.Root.TheVariants as root
 use Rattle.typed_prog.specs.Types.{of_kind}
 use Rattle.typed_prog.specs.Tree as t
-use Rattle.acsl_truth.specs.States.{Value, block_of, offset_of}
+use Rattle.c_runs.specs.TruthStates.{Value, block_of, offset_of}
 use Rattle.c_runs.specs.Program.{Facts, Variable}
 use Rattle.c_runs.specs.States.{World, Memory, Local, plain, home, Here, with_local, with_memory, stored_in}
 use Rattle.c_runs.specs.Operators.{Undefined, access, Val, is, wrong, then_val, where_true}

@@ -4,8 +4,8 @@ use Rattle.wp_base.specs.declared.kinds.CellKind.{CellKind}
 use Rattle.wp_base.specs.declared.kinds.CellKind.TheVariants as cell
 use Rattle.wp_base.specs.Blocks.{Table, count, has_layout, len, is_cell}
 use Rattle.c_kinds.specs.Models.{holds, high, difference_kind}
-use Rattle.acsl_truth.specs.Told.{is_zero}
-use Rattle.acsl_truth.specs.States.{Value, number, pointer}
+use Rattle.c_runs.specs.TruthTold.{is_zero}
+use Rattle.c_runs.specs.TruthStates.{Value, number, pointer}
 use Rattle.c_runs.specs.Program.{Variable, Function, Facts, Program}
 use Rattle.c_runs.specs.States.{Memory, global_home, plain_globals}
 use Rattle.c_runs.specs.Scopes.{scalar_of}

@@ -8,8 +8,8 @@ use Rattle.typed_prog.specs.declared.operators.Arithmetic.{Arithmetic}
 use Rattle.typed_prog.specs.declared.operators.Arithmetic.TheVariants as ar
 use Rattle.typed_prog.specs.declared.operators.Comparison.{Comparison}
 use Rattle.typed_prog.specs.declared.operators.Comparison.TheVariants as cmp
-use Rattle.acsl_truth.specs.States.{World, number}
-use Rattle.acsl_truth.specs.Truth.{compare}
+use Rattle.c_runs.specs.TruthStates.{World, number}
+use Rattle.c_runs.specs.Truth.{compare}
 use Rattle.c_runs.specs.Program.{Behavior, Together, Contract, Facts}
 use Rattle.c_runs.specs.Claims.{Stop, or_stop, together_holds, entered_well}
 use Rattle.c_runs.specs.Operators as run

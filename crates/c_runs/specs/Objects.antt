@@ -13,8 +13,8 @@ use Rattle.typed_prog.specs.declared.operators.Step.{Step}
 use Rattle.typed_prog.specs.declared.operators.Step.TheVariants as step
 use Rattle.typed_prog.specs.declared.operators.Variable.TheVariants as variable
 use Rattle.typed_prog.specs.Types.{kind_of}
-use Rattle.acsl_truth.specs.States.{Value, number, pointer, block_of, offset_of, number_of, of_kind}
-use Rattle.acsl_truth.specs.Truth.{moved, moved_by, value_at}
+use Rattle.c_runs.specs.TruthStates.{Value, number, pointer, block_of, offset_of, number_of, of_kind}
+use Rattle.c_runs.specs.Truth.{moved, moved_by, value_at}
 use Rattle.c_runs.specs.Program.{Facts, Variable}
 use Rattle.c_runs.specs.States.{Local, plain, home, World, Memory, home_of}
 use Rattle.c_runs.specs.Operators.{Undefined, init, access, index, Val, is, where_true, pointed}

@@ -12,9 +12,9 @@ use Rattle.typed_prog.specs.declared.operators.Arithmetic.{Arithmetic}
 use Rattle.typed_prog.specs.declared.operators.Arithmetic.TheVariants as ar
 use Rattle.typed_prog.specs.declared.operators.Comparison.{Comparison}
 use Rattle.typed_prog.specs.declared.operators.Comparison.TheVariants as cmp
-use Rattle.acsl_truth.specs.Told.{is_zero, is_equal, quotient}
-use Rattle.acsl_truth.specs.States.{Value, number, pointer, block_of, offset_of, number_of}
-use Rattle.acsl_truth.specs.Truth.{compare, compare_pointers, moved, moved_by}
+use Rattle.c_runs.specs.TruthTold.{is_zero, is_equal, quotient}
+use Rattle.c_runs.specs.TruthStates.{Value, number, pointer, block_of, offset_of, number_of}
+use Rattle.c_runs.specs.Truth.{compare, compare_pointers, moved, moved_by}
 use Rattle.c_runs.specs.States.{is_nonzero}
 
 -- undefined behaviour, by its kind (C11 J.2)

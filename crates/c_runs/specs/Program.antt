@@ -5,7 +5,7 @@ use Rattle.wp_base.specs.declared.kinds.CellKind.{CellKind}
 use Rattle.wp_base.specs.declared.kinds.Layout.{Layout}
 use Rattle.c_kinds.specs.declared.models.Machdep.{Machdep}
 use Rattle.typed_prog.specs.Tree.{Value}
-use Rattle.acsl_truth.specs.Told.{Tree, Definition}
+use Rattle.c_runs.specs.TruthTold.{Tree, Definition}
 
 -- ---- annotations
 

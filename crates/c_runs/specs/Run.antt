@@ -12,8 +12,8 @@ use Rattle.typed_prog.specs.declared.operators.UpdateForm.TheVariants as form
 use Rattle.typed_prog.specs.declared.operators.Effect.{Effect}
 use Rattle.typed_prog.specs.declared.operators.Effect.TheVariants as effect
 use Rattle.typed_prog.specs.Tree as t
-use Rattle.acsl_truth.specs.Told.{is_equal}
-use Rattle.acsl_truth.specs.States.{Value, number, number_of}
+use Rattle.c_runs.specs.TruthTold.{is_equal}
+use Rattle.c_runs.specs.TruthStates.{Value, number, number_of}
 use Rattle.c_runs.specs.Program.{Claim, Loop, Stmt, evaluate, block, initial, choose, loop, switch, case_of, default, break, continue, return_of, assert, Stmts, stop, more, Variable, Function, Facts, Program}
 use Rattle.c_runs.specs.States.{World, Memory, Here, is_nonzero, no_locals, seen_by_contract}
 use Rattle.c_runs.specs.Operators.{noreturn, Val, is, wrong, then_val, truth_number}

@@ -4,7 +4,7 @@ use Rattle.wp_base.specs.declared.kinds.CellKind.{CellKind}
 use Rattle.wp_base.specs.declared.kinds.CellKind.TheVariants as cell
 use Rattle.wp_base.specs.Blocks.{Table, alloc, count, grow, cells_of}
 use Rattle.c_kinds.specs.Models.{holds}
-use Rattle.acsl_truth.specs.States.{Value, number, pointer, nothing_of}
+use Rattle.c_runs.specs.TruthStates.{Value, number, pointer, nothing_of}
 use Rattle.c_runs.specs.Program.{Facts, Variable}
 use Rattle.c_runs.specs.States.{Local, plain, home, Memory, World, with_local, with_memory, unset, at, no_locals, with_cell, stored_in}
 

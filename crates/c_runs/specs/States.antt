@@ -3,8 +3,8 @@ use Rattle.std.specs.Prelude.{ℕ, zero, suc, ◌+◌, ◌-◌, ◌==◌, nat_lt
 use Rattle.wp_base.specs.Blocks.{Table}
 use Rattle.typed_prog.specs.declared.operators.Variable as code
 use Rattle.typed_prog.specs.declared.operators.Variable.TheVariants as variable
-use Rattle.acsl_truth.specs.Told.{is_zero, is_equal}
-use Rattle.acsl_truth.specs.States.{Value, number, pointer, State, null, block_of, offset_of, number_of}
+use Rattle.c_runs.specs.TruthTold.{is_zero, is_equal}
+use Rattle.c_runs.specs.TruthStates.{Value, number, pointer, State, null, block_of, offset_of, number_of}
 use Rattle.c_runs.specs.Program.{Variable, Facts}
 
 -- ---- what variables hold

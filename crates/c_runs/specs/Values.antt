@@ -12,8 +12,8 @@ use Rattle.typed_prog.specs.declared.operators.Op.{Op}
 use Rattle.typed_prog.specs.declared.operators.Op.TheVariants as op
 use Rattle.typed_prog.specs.Types.{kind_of}
 use Rattle.typed_prog.specs.Tree as t
-use Rattle.acsl_truth.specs.States.{Value, number, null, number_of}
-use Rattle.acsl_truth.specs.Truth.{compare, moved_by, first, second}
+use Rattle.c_runs.specs.TruthStates.{Value, number, null, number_of}
+use Rattle.c_runs.specs.Truth.{compare, moved_by, first, second}
 use Rattle.c_runs.specs.Program.{Facts, Variable}
 use Rattle.c_runs.specs.States.{World, is_nonzero}
 use Rattle.c_runs.specs.Operators.{Undefined, Val, is, wrong, then_val, truth_number, computed, negated, complement, compared, subtracted, pointed_unless}

@@ -13,7 +13,7 @@ use Rattle.walk_steps.specs.Forms.{Slots}
 use Rattle.walk_steps.specs.State.{at_or}
 use Rattle.c_runs.specs.Program as program
 use Rattle.c_runs.specs.Program.{Function, Facts}
-use Rattle.core_checks.specs.Tree.{Steps}
+use Rattle.c_runs.specs.Tree.{Steps}
 use Rattle.plain_states.specs.Slots as plain
 use Rattle.plain_states.specs.Slots.{answer_slot}
 use Rattle.plain_states.specs.Scopes.{kind_of}

@@ -10,7 +10,7 @@ use Rattle.qed_terms.specs.Tree.{Tree, num, imp_of, equal}
 use Rattle.walk_steps.specs.Forms.{Slots}
 use Rattle.walk_steps.specs.State.{at_or}
 use Rattle.c_runs.specs.Program.{Claim, Measure, Behavior, Contract, Function, Facts, Variable}
-use Rattle.core_checks.specs.Tree.{Steps}
+use Rattle.c_runs.specs.Tree.{Steps}
 use Rattle.plain_states.specs.Slots.{value_slot}
 use Rattle.plain_runs.specs.Fitting.{Shape}
 use Rattle.acsl_encode.specs.Readings.{Reading}

@@ -6,7 +6,7 @@ use Rattle.typed_prog.specs.declared.operators.Root.TheVariants as root
 use Rattle.qed_terms.specs.Meaning as sense
 use Rattle.qed_terms.specs.Tree.{Tree}
 use Rattle.c_runs.specs.Program.{Contract, Function, Facts}
-use Rattle.core_checks.specs.Tree.{Steps}
+use Rattle.c_runs.specs.Tree.{Steps}
 use Rattle.plain_states.specs.Slots.{answer_slot}
 use Rattle.plain_runs.specs.Fitting.{Shape, sizes}
 use Rattle.walk_steps.specs.Forms.{Slots}

@@ -3,7 +3,7 @@ use Rattle.std.specs.Prelude.{ℕ, List, map, Option}
 use Rattle.typed_prog.specs.Tree as t
 use Rattle.qed_terms.specs.Meaning as sense
 use Rattle.c_runs.specs.Program.{Contract, Function, Facts}
-use Rattle.core_checks.specs.Tree.{Goal, Steps}
+use Rattle.c_runs.specs.Tree.{Goal, Steps}
 use Rattle.plain_runs.specs.Fitting.{Shape}
 use Rattle.walk_steps.specs.Step.{Step, seq, know, change}
 use Rattle.program_steps.specs.Leaves.{form}

@@ -6,7 +6,7 @@ use Rattle.acsl_trees.specs.Tree as acsl
 use Rattle.qed_terms.specs.Tree.{Tree}
 use Rattle.walk_steps.specs.Forms.{Slots}
 use Rattle.c_runs.specs.Program.{Facts, Function, Variable}
-use Rattle.core_checks.specs.Tree.{Steps}
+use Rattle.c_runs.specs.Tree.{Steps}
 use Rattle.program_trees.specs.Files.{at}
 use Rattle.checked_trees.specs.declared.files.CheckedFunction.{CheckedFunction}
 use Rattle.checked_trees.specs.View.{view_checked_function}

@@ -5,7 +5,7 @@ ghost use Rattle.call_walks.specs.View.{arguments_over};
 ghost use Rattle.call_words.specs.Sets as sets;
 ghost use Rattle.call_words.specs.Words as spec;
 ghost use Rattle.checked_trees.specs.View.{view_checked_function};
-ghost use Rattle.core_checks.specs.Tree as core;
+ghost use Rattle.c_runs.specs.Tree as core;
 ghost use Rattle.program_steps.specs.Leaves.{form};
 ghost use Rattle.program_steps.specs.Terms as terms;
 ghost use Rattle.program_trees.specs.View.{view_contract};

@@ -3,7 +3,7 @@ ghost use Rattle.std.specs.Prelude.{◌≡◌, ◌+◌, ℕ, List, Option, true,
 ghost use Rattle.c_runs.specs.Program as program;
 ghost use Rattle.call_words.specs.Words as spec;
 ghost use Rattle.checked_trees.specs.View.{view_goal};
-ghost use Rattle.core_checks.specs.Tree as core;
+ghost use Rattle.c_runs.specs.Tree as core;
 ghost use Rattle.plain_states.specs.Slots as slots;
 ghost use Rattle.program_steps.specs.Leaves.{closed, fill};
 ghost use Rattle.program_steps.specs.Temporaries.{Temporaries};

@@ -7,14 +7,14 @@ use Rattle.wp_base.specs.Blocks.{Table}
 use Rattle.c_kinds.specs.Models.{low, high, holds}
 use Rattle.qed_terms.specs.Meaning as sense
 use Rattle.qed_terms.specs.Tree.{num}
-use Rattle.acsl_truth.specs.States.{Value, number}
+use Rattle.c_runs.specs.TruthStates.{Value, number}
 use Rattle.c_runs.specs.Program.{Contract, Facts, Program}
 use Rattle.c_runs.specs.States.{Here}
 use Rattle.c_runs.specs.Calls.{nought}
-use Rattle.core_runs.specs.Run as run
-use Rattle.core_runs.specs.Run.{CoreWorld, Ending}
-use Rattle.core_checks.specs.Tree.{Goal, nowhere, temporary, Steps}
-use Rattle.core_checks.specs.Run as exec
+use Rattle.c_runs.specs.CoreRun as run
+use Rattle.c_runs.specs.CoreRun.{CoreWorld, Ending}
+use Rattle.c_runs.specs.Tree.{Goal, nowhere, temporary, Steps}
+use Rattle.c_runs.specs.CheckedRun as exec
 use Rattle.goal_segments.specs.Segments.{no_deeper}
 use Rattle.plain_states.specs.Slots.{State, at, put, result_slot, answer_slot}
 use Rattle.plain_states.proofs.Lists.{put_length, put_elsewhere}

@@ -5,8 +5,8 @@ use Rattle.std.proofs.lemmas.Bool.{lt-ltb, le-leb, leb-true}
 use Rattle.wp_base.specs.Blocks.{Table, count}
 use Rattle.c_kinds.specs.Models.{holds}
 use Rattle.typed_prog.specs.Tree as t
-use Rattle.acsl_truth.specs.States as labelled
-use Rattle.acsl_truth.specs.States.{Value, number, number_of}
+use Rattle.c_runs.specs.TruthStates as labelled
+use Rattle.c_runs.specs.TruthStates.{Value, number, number_of}
 use Rattle.qed_terms.specs.Meaning as sense
 use Rattle.c_runs.specs.Program.{Variable, Function, Facts}
 use Rattle.c_runs.specs.States.{Memory, World, seen_by_contract}
@@ -14,8 +14,8 @@ use Rattle.c_runs.specs.Claims.{at_entry, ensured, here_in, parts_of}
 use Rattle.c_runs.specs.Scopes.{scalar_of}
 use Rattle.c_runs.specs.Entry.{is_value, is_placed}
 use Rattle.c_runs.specs.Allowed.{AllAllow, MayChange}
-use Rattle.core_runs.specs.Run.{CoreWorld, in_world}
-use Rattle.core_checks.specs.Tree.{Steps}
+use Rattle.c_runs.specs.CoreRun.{CoreWorld, in_world}
+use Rattle.c_runs.specs.Tree.{Steps}
 use Rattle.goal_segments.specs.Segments.{SameBlocks, BehindCall}
 use Rattle.goal_segments.specs.Segments as segment
 use Rattle.goal_segments.proofs.Heads.{same_blocks, good_state, all_allow}

@@ -5,14 +5,14 @@ use Rattle.std.proofs.lemmas.Bool.{false≢true}
 use Rattle.typed_prog.specs.declared.operators.Variable as code
 use Rattle.typed_prog.specs.declared.operators.Variable.TheVariants as variables
 use Rattle.typed_prog.specs.Tree as t
-use Rattle.acsl_truth.specs.States as labelled
+use Rattle.c_runs.specs.TruthStates as labelled
 use Rattle.qed_terms.specs.Meaning as sense
 use Rattle.qed_terms.specs.Meaning.{truth}
 use Rattle.qed_terms.specs.Tree.{Tree, false_tree}
 use Rattle.c_runs.specs.Program.{Behavior, Contract, Function, Facts}
 use Rattle.c_runs.specs.States.{Here}
 use Rattle.c_runs.specs.Claims.{holds, is_assumed, in_state}
-use Rattle.core_checks.specs.Tree.{Steps}
+use Rattle.c_runs.specs.Tree.{Steps}
 use Rattle.plain_states.specs.Slots.{State}
 use Rattle.plain_runs.specs.Fitting.{Shape}
 use Rattle.program_steps.specs.Leaves.{leaves_of}

@@ -12,7 +12,7 @@ use Rattle.qed_terms.specs.Tree.{Tree, num}
 use Rattle.c_runs.specs.Program as program
 use Rattle.c_runs.specs.Program.{Contract, Function, Facts}
 use Rattle.c_runs.specs.Claims as broken
-use Rattle.core_checks.specs.Tree.{Goal, nowhere, temporary, place, variable, Steps}
+use Rattle.c_runs.specs.Tree.{Goal, nowhere, temporary, place, variable, Steps}
 use Rattle.plain_states.specs.Slots.{answer_slot}
 use Rattle.plain_states.specs.Scopes.{kind_of}
 use Rattle.plain_runs.specs.Fitting.{Shape, sizes}

@@ -5,13 +5,13 @@ use Rattle.std.proofs.lemmas.Bool.{false≢true}
 use Rattle.typed_prog.specs.declared.operators.Variable.TheVariants as variables
 use Rattle.typed_prog.specs.Tree as t
 use Rattle.acsl_trees.specs.Tree as acsl
-use Rattle.acsl_truth.specs.States as labelled
-use Rattle.acsl_truth.specs.Allowed.{is_named}
+use Rattle.c_runs.specs.TruthStates as labelled
+use Rattle.c_runs.specs.TruthAllowed.{is_named}
 use Rattle.qed_terms.specs.Meaning as sense
 use Rattle.c_runs.specs.Program.{Behavior, Contract, Function, Facts, Variable}
 use Rattle.c_runs.specs.States.{Granted, Here}
 use Rattle.c_runs.specs.Claims.{holds, is_assumed, regions_of, granted_by, granted_in, parts_of, in_state}
-use Rattle.core_checks.specs.Tree.{Steps}
+use Rattle.c_runs.specs.Tree.{Steps}
 use Rattle.goal_segments.specs.Sets.{region_inside, some_inside, call_inside}
 use Rattle.plain_states.specs.Slots.{State}
 use Rattle.plain_states.specs.Scopes.{is_integer}

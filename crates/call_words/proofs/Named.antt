@@ -11,15 +11,15 @@ use Rattle.typed_prog.specs.declared.operators.Variable as code
 use Rattle.typed_prog.specs.declared.operators.Variable.TheVariants as variables
 use Rattle.typed_prog.specs.Tree as t
 use Rattle.acsl_trees.specs.Tree as acsl
-use Rattle.acsl_truth.specs.States as labelled
-use Rattle.acsl_truth.specs.States.{Value, covers, one_address, region}
-use Rattle.acsl_truth.specs.Allowed.{is_named}
+use Rattle.c_runs.specs.TruthStates as labelled
+use Rattle.c_runs.specs.TruthStates.{Value, covers, one_address, region}
+use Rattle.c_runs.specs.TruthAllowed.{is_named}
 use Rattle.qed_terms.specs.Meaning as sense
 use Rattle.qed_terms.specs.Operators.{is_zero, is_equal}
 use Rattle.c_runs.specs.Program.{Function, Facts, Variable}
 use Rattle.c_runs.specs.States.{Granted, plain_globals}
 use Rattle.c_runs.specs.Claims.{regions_of, value_of}
-use Rattle.core_checks.specs.Tree.{Steps}
+use Rattle.c_runs.specs.Tree.{Steps}
 use Rattle.goal_segments.specs.Sets.{region_inside}
 use Rattle.plain_states.specs.Slots.{State}
 use Rattle.plain_states.specs.Scopes.{is_integer}

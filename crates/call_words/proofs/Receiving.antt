@@ -14,8 +14,8 @@ use Rattle.typed_prog.specs.declared.operators.Variable.TheVariants as variables
 use Rattle.typed_prog.specs.Tree as t
 use Rattle.qed_terms.specs.Meaning as sense
 use Rattle.qed_terms.specs.Tree.{Tree}
-use Rattle.acsl_truth.specs.States.{Value, number}
-use Rattle.acsl_truth.specs.States as labelled
+use Rattle.c_runs.specs.TruthStates.{Value, number}
+use Rattle.c_runs.specs.TruthStates as labelled
 use Rattle.c_runs.specs.Program.{Variable, Contract, Facts, Program}
 use Rattle.c_runs.specs.States.{World, Here, plain, with_local, with_memory, stored_in}
 use Rattle.c_runs.specs.Claims as broken
@@ -23,10 +23,10 @@ use Rattle.c_runs.specs.Claims.{failed, may_change_local}
 use Rattle.c_runs.specs.Effects as effects
 use Rattle.c_runs.specs.Effects.{granted, wrote_act, initial_act}
 use Rattle.c_runs.specs.Objects.{plain_root, is_plain_in, cell_of, along, start as start_at, address}
-use Rattle.core_runs.specs.Run as run
-use Rattle.core_runs.specs.Run.{CoreWorld, Ending, with_eval, in_world, with_temp}
-use Rattle.core_checks.specs.Tree.{Goal, nowhere, temporary, place, variable, Steps}
-use Rattle.core_checks.specs.Run as exec
+use Rattle.c_runs.specs.CoreRun as run
+use Rattle.c_runs.specs.CoreRun.{CoreWorld, Ending, with_eval, in_world, with_temp}
+use Rattle.c_runs.specs.Tree.{Goal, nowhere, temporary, place, variable, Steps}
+use Rattle.c_runs.specs.CheckedRun as exec
 use Rattle.goal_segments.specs.Segments.{no_deeper}
 use Rattle.plain_states.specs.Slots.{State, temp_slot, with_variable}
 use Rattle.plain_states.specs.Scopes.{kind_of}

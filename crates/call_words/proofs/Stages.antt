@@ -6,7 +6,7 @@ use Rattle.qed_terms.specs.Meaning as sense
 use Rattle.qed_terms.specs.Tree.{Tree}
 use Rattle.c_runs.specs.Program.{Facts}
 use Rattle.c_runs.specs.Claims.{Stop}
-use Rattle.core_runs.specs.Run.{Ending, stopped}
+use Rattle.c_runs.specs.CoreRun.{Ending, stopped}
 use Rattle.plain_states.specs.Slots.{State}
 use Rattle.plain_states.proofs.Calling.{some_same}
 use Rattle.plain_states.proofs.Scoping.{none_some}

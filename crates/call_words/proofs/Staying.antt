@@ -8,9 +8,9 @@ use Rattle.wp_base.specs.declared.kinds.CellKind.TheVariants as cell
 use Rattle.typed_prog.specs.declared.operators.Variable.TheVariants as variables
 use Rattle.typed_prog.specs.Tree as t
 use Rattle.acsl_trees.specs.Tree as acsl
-use Rattle.acsl_truth.specs.States as labelled
-use Rattle.acsl_truth.specs.States.{Value, number, number_of, is_negative}
-use Rattle.acsl_truth.specs.Allowed.{is_named}
+use Rattle.c_runs.specs.TruthStates as labelled
+use Rattle.c_runs.specs.TruthStates.{Value, number, number_of, is_negative}
+use Rattle.c_runs.specs.TruthAllowed.{is_named}
 use Rattle.qed_terms.specs.Meaning as sense
 use Rattle.qed_terms.specs.Operators.{is_zero, is_equal}
 use Rattle.qed_terms.specs.Tree.{Tree, equal}
@@ -18,7 +18,7 @@ use Rattle.c_runs.specs.Program.{Behavior, Function, Facts, Variable}
 use Rattle.c_runs.specs.States.{Memory, Granted, held_by, params_from, plain_globals, seen_by_contract}
 use Rattle.c_runs.specs.Claims.{at_entry, holds, is_assumed, regions_of, granted_by, granted_in, lets_cell}
 use Rattle.c_runs.specs.Allowed.{SetAllows, AllAllow}
-use Rattle.core_checks.specs.Tree.{Steps}
+use Rattle.c_runs.specs.Tree.{Steps}
 use Rattle.plain_states.specs.Slots.{State, at, value_slot}
 use Rattle.plain_states.specs.Scopes.{is_integer}
 use Rattle.plain_states.proofs.Puts.{equal_is}

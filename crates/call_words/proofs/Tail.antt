@@ -8,18 +8,18 @@ use Rattle.typed_prog.specs.Tree as t
 use Rattle.qed_terms.specs.Meaning as sense
 use Rattle.qed_terms.specs.Meaning.{truth}
 use Rattle.qed_terms.specs.Tree.{Tree}
-use Rattle.acsl_truth.specs.States as labelled
-use Rattle.acsl_truth.specs.States.{Value, number, number_of}
+use Rattle.c_runs.specs.TruthStates as labelled
+use Rattle.c_runs.specs.TruthStates.{Value, number, number_of}
 use Rattle.c_runs.specs.Program.{Variable, Contract, Function, Facts, Program}
 use Rattle.c_runs.specs.States.{World, Memory, Here}
 use Rattle.c_runs.specs.Claims.{Stop, at_entry, at_return, ensured, here_in, parts_of}
 use Rattle.c_runs.specs.Calls.{nought}
-use Rattle.core_runs.specs.Run.{CoreWorld, Ending, in_world}
-use Rattle.rte_checks.specs.Checks.{Check}
-use Rattle.rte_checks.specs.Tests.{totals}
-use Rattle.core_checks.specs.Tree as core
-use Rattle.core_checks.specs.Tree.{Goal, Steps}
-use Rattle.core_checks.specs.Run as exec
+use Rattle.c_runs.specs.CoreRun.{CoreWorld, Ending, in_world}
+use Rattle.c_runs.specs.Checks.{Check}
+use Rattle.c_runs.specs.Tests.{totals}
+use Rattle.c_runs.specs.Tree as core
+use Rattle.c_runs.specs.Tree.{Goal, Steps}
+use Rattle.c_runs.specs.CheckedRun as exec
 use Rattle.goal_segments.specs.Segments.{BehindCall, no_deeper}
 use Rattle.goal_segments.specs.Segments as segment
 use Rattle.plain_states.specs.Slots.{State, at, double, put, value_slot, answer_slot}

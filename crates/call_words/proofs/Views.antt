@@ -10,15 +10,15 @@ use Rattle.typed_prog.specs.Tree as t
 use Rattle.qed_terms.specs.Meaning as sense
 use Rattle.qed_terms.specs.Meaning.{Values, truth, value}
 use Rattle.qed_terms.specs.Tree.{num}
-use Rattle.acsl_truth.specs.States.{Value, number}
-use Rattle.acsl_truth.specs.Truth.{value_at}
+use Rattle.c_runs.specs.TruthStates.{Value, number}
+use Rattle.c_runs.specs.Truth.{value_at}
 use Rattle.c_runs.specs.Program.{Variable, Function, Facts}
 use Rattle.c_runs.specs.States.{Memory, plain, held_by, hidden, params_from, block_of_local, seen_by_contract, plain_globals}
 use Rattle.c_runs.specs.Operators.{truth_number}
 use Rattle.c_runs.specs.Scopes.{is_content}
-use Rattle.core_runs.specs.Run.{CoreWorld}
-use Rattle.rte_checks.specs.Tests.{totals}
-use Rattle.core_checks.specs.Tree.{Steps}
+use Rattle.c_runs.specs.CoreRun.{CoreWorld}
+use Rattle.c_runs.specs.Tests.{totals}
+use Rattle.c_runs.specs.Tree.{Steps}
 use Rattle.plain_states.specs.Slots.{State, at, value_slot, local_value, local_flag, temp_slot}
 use Rattle.plain_states.specs.Scopes.{kind_of}
 use Rattle.plain_states.proofs.Puts.{at_is}

@@ -15,7 +15,7 @@ use Rattle.acsl_trees.specs.declared.heads.Head.TheVariants as head
 use Rattle.qed_terms.specs.Meaning as sense
 use Rattle.qed_terms.specs.Tree.{Tree, num, true_tree, false_tree, less, at_most, equal, and_of, or_of, imp_of}
 use Rattle.c_runs.specs.Program.{Variable, Claim, Contract, Function, Facts}
-use Rattle.core_checks.specs.Tree.{Goal, place, Steps, end}
+use Rattle.c_runs.specs.Tree.{Goal, place, Steps, end}
 use Rattle.plain_runs.specs.Fitting.{Shape}
 use Rattle.walk_steps.specs.Forms.{Place}
 use Rattle.walk_steps.specs.Step.{Change, keeps, places}

@@ -13,8 +13,8 @@ use Rattle.typed_prog.specs.declared.operators.Variable.TheVariants as variables
 use Rattle.acsl_trees.specs.Tree as acsl
 use Rattle.acsl_trees.specs.declared.heads.Content.TheVariants as content
 use Rattle.acsl_trees.specs.declared.heads.Head.TheVariants as head
-use Rattle.acsl_truth.specs.States.{Value, number}
-use Rattle.acsl_truth.specs.States as labelled
+use Rattle.c_runs.specs.TruthStates.{Value, number}
+use Rattle.c_runs.specs.TruthStates as labelled
 use Rattle.acsl_encode.specs.Encode as encode
 use Rattle.qed_terms.specs.Meaning as sense
 use Rattle.qed_terms.specs.Meaning.{truth, value}
@@ -22,9 +22,9 @@ use Rattle.qed_terms.specs.Tree.{Tree}
 use Rattle.c_runs.specs.Program.{Variable, Claim, Measure, Behavior, Contract, Function, Facts}
 use Rattle.c_runs.specs.States.{hidden}
 use Rattle.c_runs.specs.Claims.{holds, number_at, struct_cells}
-use Rattle.rte_checks.specs.Checks.{Check, all_checks}
-use Rattle.core_checks.specs.Tree as core
-use Rattle.core_checks.specs.Tree.{Goal, nowhere, temporary, place, variable, Steps}
+use Rattle.c_runs.specs.Checks.{Check, all_checks}
+use Rattle.c_runs.specs.Tree as core
+use Rattle.c_runs.specs.Tree.{Goal, nowhere, temporary, place, variable, Steps}
 use Rattle.plain_states.specs.Slots.{State, at, value_slot, answer_slot}
 use Rattle.plain_states.specs.Scopes.{kind_of}
 use Rattle.plain_runs.specs.Fitting.{Shape, sizes, LeadsTo}

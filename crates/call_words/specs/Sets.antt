@@ -10,7 +10,7 @@ use Rattle.qed_terms.specs.Tree.{Tree, true_tree, false_tree, and_of}
 use Rattle.c_kinds.specs.Models.{low, high}
 use Rattle.c_runs.specs.Program as program
 use Rattle.c_runs.specs.Program.{Behavior, Contract, Function, Facts}
-use Rattle.core_checks.specs.Tree.{Steps}
+use Rattle.c_runs.specs.Tree.{Steps}
 use Rattle.plain_states.specs.Scopes.{kind_of}
 use Rattle.plain_runs.specs.Fitting.{Shape}
 use Rattle.walk_steps.specs.Step.{Change, keeps}

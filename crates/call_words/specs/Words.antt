@@ -11,8 +11,8 @@ use Rattle.qed_terms.specs.Meaning as sense
 use Rattle.qed_terms.specs.Tree.{Tree, num, at_most, less, and_of}
 use Rattle.c_runs.specs.Program.{Claim, Measure, Behavior, Contract, Function, Facts}
 use Rattle.c_runs.specs.Claims as broken
-use Rattle.rte_checks.specs.Checks.{Check}
-use Rattle.core_checks.specs.Tree.{Goal, nowhere, temporary, place, variable, Steps}
+use Rattle.c_runs.specs.Checks.{Check}
+use Rattle.c_runs.specs.Tree.{Goal, nowhere, temporary, place, variable, Steps}
 use Rattle.plain_states.specs.Slots.{answer_slot, temp_slot}
 use Rattle.plain_runs.specs.Fitting.{Shape, sizes}
 use Rattle.value_terms.specs.Words.{words}

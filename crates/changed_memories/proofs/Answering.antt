@@ -2,7 +2,7 @@
 use Rattle.std.proofs.Common.{◌≡◌, ℕ, true, List, Option, ap}
 use Rattle.wp_base.specs.declared.kinds.CellKind.{CellKind}
 use Rattle.c_runs.specs.Program.{Contract, Function, Facts}
-use Rattle.core_checks.specs.Tree.{Steps}
+use Rattle.c_runs.specs.Tree.{Steps}
 use Rattle.qed_terms.specs.Meaning as sense
 use Rattle.qed_terms.specs.Tree.{Tree}
 use Rattle.memory_steps.specs.State.{Base}

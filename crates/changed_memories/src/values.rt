@@ -3,7 +3,7 @@ ghost use Rattle.std.specs.Prelude.{◌≡◌, ◌+◌, ℕ, List, Option, Some,
 ghost use Rattle.c_runs.specs.Program as program;
 ghost use Rattle.changed_memories.specs.Changed.{IsSorted};
 ghost use Rattle.changed_memories.specs.Written as written;
-ghost use Rattle.core_checks.specs.Tree as core;
+ghost use Rattle.c_runs.specs.Tree as core;
 ghost use Rattle.memory_calls.specs.CallWords.{answer_step};
 ghost use Rattle.memory_frames.specs.View.{Still, bases_in, cells_in, facts_in, shape_in};
 ghost use Rattle.memory_words.specs.Readings as readings;

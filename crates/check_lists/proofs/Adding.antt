@@ -1,7 +1,7 @@
 -- Checks pushed behind others.
 use Rattle.std.proofs.Common.{◌≡◌, ℕ, List, [], ◌∷◌, ◌++◌, map, refl, sym, ap, ◌∙◌, append_assoc, append-nil}
 use Rattle.std.proofs.lemmas.List.{map_push}
-use Rattle.rte_checks.specs.Checks as c
+use Rattle.c_runs.specs.Checks as c
 use Rattle.check_lists.specs.declared.checks.Undefined.{Undefined}
 use Rattle.check_lists.specs.declared.checks.Check.{Check}
 use Rattle.check_lists.specs.View.{view_undefined, view_check, view_checks, check_at, under, Added}

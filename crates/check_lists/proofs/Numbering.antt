@@ -5,7 +5,7 @@ use Rattle.typed_prog.specs.declared.tree.Value.{Value}
 use Rattle.typed_prog.specs.Tree as t
 use Rattle.typed_prog.specs.View.{view_value, view_values}
 use Rattle.c_runs.specs.Program.{Variable}
-use Rattle.rte_checks.specs.Checks as c
+use Rattle.c_runs.specs.Checks as c
 use Rattle.check_lists.specs.declared.checks.Check.{Check}
 use Rattle.check_lists.specs.View.{view_checks, under, Added}
 use Rattle.check_lists.proofs.Adding.{map_append}

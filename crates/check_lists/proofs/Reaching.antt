@@ -8,8 +8,8 @@ use Rattle.typed_prog.specs.declared.operators.Step.TheVariants as step
 use Rattle.c_runs.specs.Program.{Variable}
 use Rattle.c_runs.specs.Operators.{init}
 use Rattle.c_runs.specs.Objects.{plain_root, has_value}
-use Rattle.rte_checks.specs.Checks as c
-use Rattle.core_checks.specs.Adding.{way_checks_by, way_checks}
+use Rattle.c_runs.specs.Checks as c
+use Rattle.c_runs.specs.Adding.{way_checks_by, way_checks}
 use Rattle.check_lists.specs.declared.checks.Check.{Check}
 use Rattle.check_lists.specs.View.{view_checks, under, Added, reached}
 use Rattle.check_lists.proofs.Adding.{map_append, none_added}

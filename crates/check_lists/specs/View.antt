@@ -3,7 +3,7 @@ use Rattle.std.specs.Prelude.{◌≡◌, ℕ, Bool, List, [], ◌∷◌, ◌++�
 use Rattle.typed_prog.specs.declared.operators.Path.{Path}
 use Rattle.c_runs.specs.Operators as u
 use Rattle.c_runs.specs.Objects.{is_pointed}
-use Rattle.rte_checks.specs.Checks as c
+use Rattle.c_runs.specs.Checks as c
 use Rattle.check_lists.specs.declared.checks.Undefined.{Undefined}
 use Rattle.check_lists.specs.declared.checks.Undefined.TheVariants as code
 use Rattle.check_lists.specs.declared.checks.Check.{Check}

@@ -3,9 +3,9 @@ ghost use Rattle.std.specs.Prelude.{◌≡◌, [], ◌∷◌, ◌++◌, IfOk};
 ghost use Rattle.c_runs.specs.Objects.{is_pointed as is_pointed_root, plain_root};
 ghost use Rattle.c_runs.specs.Operators.{access};
 ghost use Rattle.check_lists.specs.View as spec;
-ghost use Rattle.core_checks.specs.Adding as adding;
+ghost use Rattle.c_runs.specs.Adding as adding;
 ghost use Rattle.core_trees.specs.View.{view_variables};
-ghost use Rattle.rte_checks.specs.Checks as checks;
+ghost use Rattle.c_runs.specs.Checks as checks;
 
 use crate::checks::{Check, Undefined};
 use crate::pushes::{after, push_check, push_if};

@@ -1,7 +1,7 @@
 // Single checks, pushed behind those that are there.
 ghost use Rattle.std.specs.Prelude.{◌≡◌, [], ◌∷◌, ◌++◌, IfOk, suc};
 ghost use Rattle.check_lists.specs.View as spec;
-ghost use Rattle.rte_checks.specs.Checks as checks;
+ghost use Rattle.c_runs.specs.Checks as checks;
 
 use crate::checks::{Check, Undefined};
 use std::alloc::Global;

@@ -2,7 +2,7 @@
 ghost use Rattle.std.specs.Prelude.{◌≡◌, [], ◌∷◌, ◌++◌, IfOk, map};
 ghost use Rattle.check_lists.specs.View as spec;
 ghost use Rattle.core_trees.specs.View.{view_variables};
-ghost use Rattle.rte_checks.specs.Checks as checks;
+ghost use Rattle.c_runs.specs.Checks as checks;
 ghost use Rattle.typed_prog.specs.Tree.{values_of};
 ghost use Rattle.typed_prog.specs.View.{view_value, view_values};
 

@@ -10,7 +10,7 @@ use Rattle.typed_prog.specs.View.{view_value, view_values}
 use Rattle.core_trees.specs.declared.claims.Claim.{Claim}
 use Rattle.core_trees.specs.declared.claims.Loop.{Loop}
 use Rattle.core_trees.specs.View.{view_claim, view_loop}
-use Rattle.core_checks.specs.Tree as k
+use Rattle.c_runs.specs.Tree as k
 use Rattle.check_lists.specs.declared.checks.Check.{Check}
 use Rattle.check_lists.specs.View.{view_checks}
 use Rattle.checked_trees.specs.declared.steps.Goal.{Goal}

@@ -5,7 +5,7 @@ use Rattle.typed_prog.specs.Tree.{values_of}
 use Rattle.typed_prog.specs.View.{view_value, view_values}
 use Rattle.c_runs.specs.Program as p
 use Rattle.core_trees.specs.View.{view_claim, view_loop, view_variables}
-use Rattle.core_checks.specs.Tree as k
+use Rattle.c_runs.specs.Tree as k
 use Rattle.program_trees.specs.Files.{at}
 use Rattle.program_trees.specs.View.{view_contract, view_facts}
 use Rattle.check_lists.specs.View.{view_checks}

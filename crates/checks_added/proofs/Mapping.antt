@@ -3,9 +3,9 @@ use Rattle.std.proofs.Common.{◌≡◌, ℕ, zero, suc, ◌+◌, ◌<◌, ◌�
 use Rattle.std.specs.Option.{option_map}
 use Rattle.std.proofs.lemmas.List.{at_drop_more, at_drop_all, map_push}
 use Rattle.c_runs.specs.Program as p
-use Rattle.core_runs.specs.Core as core
-use Rattle.core_checks.specs.Tree as k
-use Rattle.core_checks.specs.Adding as adding
+use Rattle.c_runs.specs.Core as core
+use Rattle.c_runs.specs.Tree as k
+use Rattle.c_runs.specs.Adding as adding
 use Rattle.core_trees.specs.declared.statements.Core.{Core}
 use Rattle.core_trees.specs.View.{view_core, view_cores}
 use Rattle.program_trees.specs.declared.files.CoreFunction.{CoreFunction}

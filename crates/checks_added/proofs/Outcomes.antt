@@ -2,16 +2,16 @@
 use Rattle.std.proofs.Common.{◌≡◌, ℕ, true, List, Option, Some, None, sym, ap, ◌∙◌, subst}
 use Rattle.std.specs.Option.{option_map}
 use Rattle.c_runs.specs.Program as p
-use Rattle.core_runs.specs.Core.{Cores}
-use Rattle.core_runs.specs.Run as core
-use Rattle.normal_stmts.specs.Normal.{normal, normal_function}
-use Rattle.normal_stmts.specs.Laws.{are_core}
-use Rattle.normal_stmts.proofs.Outcomes.{same_outcome}
-use Rattle.normal_stmts.proofs.Pureness.{all_core}
-use Rattle.core_checks.specs.Adding.{add_checks}
-use Rattle.core_checks.specs.Laws.{IsCore}
-use Rattle.core_checks.specs.Run as checked
-use Rattle.core_checks.proofs.Running.{checks_keep}
+use Rattle.c_runs.specs.Core.{Cores}
+use Rattle.c_runs.specs.CoreRun as core
+use Rattle.c_runs.specs.Normal.{normal, normal_function}
+use Rattle.c_runs.specs.NormalLaws.{are_core}
+use Rattle.c_runs.proofs.Outcomes.{same_outcome}
+use Rattle.c_runs.proofs.Pureness.{all_core}
+use Rattle.c_runs.specs.Adding.{add_checks}
+use Rattle.c_runs.specs.CheckedLaws.{IsCore}
+use Rattle.c_runs.specs.CheckedRun as checked
+use Rattle.c_runs.proofs.Running.{checks_keep}
 use Rattle.program_trees.specs.View.{view_program}
 use Rattle.checks_added.specs.Laws.{ChecksRunAsSpelled}
 

@@ -1,11 +1,11 @@
 -- What is so of the core program of a program, with its checks.
 use Rattle.std.specs.Prelude.{◌≡◌, ℕ, List}
-use Rattle.acsl_truth.specs.States.{Value}
+use Rattle.c_runs.specs.TruthStates.{Value}
 use Rattle.c_runs.specs.States.{Memory}
 use Rattle.c_runs.specs.Run as spelled
-use Rattle.normal_stmts.specs.Normal.{normal}
-use Rattle.core_checks.specs.Adding.{add_checks}
-use Rattle.core_checks.specs.Run as checked
+use Rattle.c_runs.specs.Normal.{normal}
+use Rattle.c_runs.specs.Adding.{add_checks}
+use Rattle.c_runs.specs.CheckedRun as checked
 use Rattle.program_trees.specs.declared.files.Program.{Program}
 use Rattle.program_trees.specs.declared.files.CoreProgram.{CoreProgram}
 use Rattle.program_trees.specs.View.{view_program, view_core_program}

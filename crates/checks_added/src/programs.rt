@@ -2,7 +2,7 @@
 ghost use Rattle.std.specs.Prelude.{◌≡◌, IfOk, map};
 ghost use Rattle.std.specs.Option.{option_map};
 ghost use Rattle.checked_trees.specs.View.{view_checked_function, view_checked_program};
-ghost use Rattle.core_checks.specs.Adding as adding;
+ghost use Rattle.c_runs.specs.Adding as adding;
 ghost use Rattle.program_trees.specs.View.{view_core_function, view_core_program};
 
 use crate::steps::steps_of;

@@ -2,11 +2,11 @@
 ghost use Rattle.std.specs.Prelude.{◌≡◌, IfOk};
 ghost use Rattle.std.specs.Option.{option_map};
 ghost use Rattle.checked_trees.specs.View.{view_goal, view_step, view_steps};
-ghost use Rattle.core_checks.specs.Adding as adding;
-ghost use Rattle.core_checks.specs.Tree as checked;
-ghost use Rattle.core_runs.specs.Core as core;
+ghost use Rattle.c_runs.specs.Adding as adding;
+ghost use Rattle.c_runs.specs.Tree as checked;
+ghost use Rattle.c_runs.specs.Core as core;
 ghost use Rattle.core_trees.specs.View.{view_target, view_variables};
-ghost use Rattle.rte_checks.specs.Checks as checks;
+ghost use Rattle.c_runs.specs.Checks as checks;
 ghost use Rattle.typed_prog.specs.Tree.{values_of};
 ghost use Rattle.typed_prog.specs.View.{view_value, view_values};
 

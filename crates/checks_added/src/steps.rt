@@ -1,7 +1,7 @@
 // Statements with their checks. What the recursion goes down stands first.
 ghost use Rattle.std.specs.Prelude.{◌≡◌, IfOk};
 ghost use Rattle.checked_trees.specs.View.{view_step, view_steps};
-ghost use Rattle.core_checks.specs.Adding as adding;
+ghost use Rattle.c_runs.specs.Adding as adding;
 ghost use Rattle.core_trees.specs.View.{view_core, view_cores, view_variables};
 
 use crate::statements::{branch_step, call_step, give_step, set_step, start_step, store_step};

@@ -6,7 +6,7 @@ use Rattle.typed_prog.specs.declared.operators.Path.{Path}
 use Rattle.typed_prog.specs.declared.tree.Value.{Value}
 use Rattle.typed_prog.specs.Tree.{values_of}
 use Rattle.typed_prog.specs.View.{view_value, view_values}
-use Rattle.core_runs.specs.Core as c
+use Rattle.c_runs.specs.Core as c
 use Rattle.core_trees.specs.declared.claims.Claim.{Claim}
 use Rattle.core_trees.specs.declared.claims.Loop.{Loop}
 use Rattle.core_trees.specs.declared.statements.Target.{Target}

@@ -5,7 +5,7 @@ use Rattle.acsl_trees.specs.Tree.{view_tree, view_trees}
 use Rattle.typed_prog.specs.Tree.{values_of}
 use Rattle.typed_prog.specs.View.{view_value, view_values}
 use Rattle.c_runs.specs.Program as p
-use Rattle.core_runs.specs.Core as c
+use Rattle.c_runs.specs.Core as c
 use Rattle.core_trees.specs.declared.claims.Claim.{Claim}
 use Rattle.core_trees.specs.declared.claims.Measure.{Measure}
 use Rattle.core_trees.specs.declared.claims.Loop.{Loop}

@@ -7,7 +7,7 @@ use Rattle.acsl_trees.specs.declared.heads.Head.TheVariants as head
 use Rattle.acsl_trees.specs.Tree.{Tree, Trees, node, stop, more, leaf, trees_of}
 use Rattle.acsl_names.specs.declared.names.Definition.{Definition as Declared}
 use Rattle.acsl_expand.specs.Expansion.{binds, around_kid, CallTrees, placed, node_tree, expand, expand_kids, nought}
-use Rattle.acsl_truth.specs.Laws.{Signatures, count_of, node_fits, binders_inside, is_well_formed, are_well_formed}
+use Rattle.c_runs.specs.TruthLaws.{Signatures, count_of, node_fits, binders_inside, is_well_formed, are_well_formed}
 use Rattle.acsl_well_typed.specs.WellTyped.{What, an_integer, Known, Names, Binder, no_name, a_value, a_name, a_number, binder_of, names_in, binder_behind, kid_gives, called, alone, returned, gives, what_of, kids_give}
 use Rattle.acsl_well_typed.specs.Definitions.{known_with}
 use Rattle.expanded_types.proofs.Lists.{get_front, get_behind, get_after, node_given, more_given, more_made}

@@ -9,7 +9,7 @@ use Rattle.acsl_trees.specs.declared.operands.TermType.TheVariants as type
 use Rattle.acsl_trees.specs.Tree.{Tree, node, trees_of}
 use Rattle.acsl_names.specs.declared.names.Definition.{Definition as Declared}
 use Rattle.acsl_expand.specs.Expansion.{Definition, definition_at, expand, call_tree, call_trees, nought}
-use Rattle.acsl_truth.specs.Laws.{Signatures, is_definition, are_definitions, is_well_formed, tests_number}
+use Rattle.c_runs.specs.TruthLaws.{Signatures, is_definition, are_definitions, is_well_formed, tests_number}
 use Rattle.acsl_well_typed.specs.WellTyped.{What, an_integer, a_pointer, Names, no_name, one_more, types_give, result_gives, all_taken, called, returned, gives, what_of, kids_give}
 use Rattle.acsl_well_typed.specs.Definitions.{known_with}
 use Rattle.expanded_types.specs.Laws.{BodiesAreTyped, ExpansionKeepsTypes}

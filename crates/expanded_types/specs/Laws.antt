@@ -5,7 +5,7 @@ use Rattle.typed_prog.specs.Types.{void}
 use Rattle.acsl_trees.specs.Tree.{Tree}
 use Rattle.acsl_names.specs.declared.names.Definition.{Definition as Declared}
 use Rattle.acsl_expand.specs.Expansion.{Definition, definition_at, expanded}
-use Rattle.acsl_truth.specs.Laws.{Signatures, are_definitions, is_well_formed}
+use Rattle.c_runs.specs.TruthLaws.{Signatures, are_definitions, is_well_formed}
 use Rattle.acsl_well_typed.specs.WellTyped.{What, a_pointer, Names, types_give, result_gives, what_of}
 use Rattle.acsl_well_typed.specs.Definitions.{known_with}
 

@@ -1,7 +1,7 @@
 -- Functions that are found by their numbers, and what is so where a call gave something.
 use Rattle.std.proofs.Common.{◌≡◌, ◌<◌, ℕ, zero, suc, List, [], ◌∷◌, map, length, get_or, arith, Option, Some, None, Result, Ok, Err, IfOk, sym, ap, ◌∙◌}
 use Rattle.std.specs.Option.{option_map}
-use Rattle.core_checks.specs.Tree.{Steps}
+use Rattle.c_runs.specs.Tree.{Steps}
 use Rattle.c_runs.specs.Program.{Function}
 use Rattle.slot_names.specs.Bases.{Name}
 use Rattle.program_trees.specs.Files.{at}

@@ -10,7 +10,7 @@ use Rattle.typed_unit.specs.Unit as u
 use Rattle.acsl_typing.specs.Annotations.{Annotations}
 use Rattle.c_runs.specs.Program.{Facts, Stmts, Program}
 use Rattle.c_programs.specs.Files.{program_of}
-use Rattle.core_checks.specs.Tree.{Steps}
+use Rattle.c_runs.specs.Tree.{Steps}
 use Rattle.qed_terms.specs.Setting.{Setting, is_regular}
 use Rattle.qed_terms.specs.View.{view_setting}
 use Rattle.plain_test.specs.Plain.{is_plain_file}

@@ -2,7 +2,7 @@
 use Rattle.std.specs.Prelude.{ℕ, List, [], map, Option, Some, None}
 use Rattle.typed_unit.specs.Unit as u
 use Rattle.c_runs.specs.Program.{Function, Program}
-use Rattle.core_checks.specs.Tree.{Steps}
+use Rattle.c_runs.specs.Tree.{Steps}
 use Rattle.plain_words.specs.Temporaries.{temporaries_in}
 use Rattle.slot_names.specs.Bases.{Name, slot_bases}
 use Rattle.plain_sources.specs.Built.{first_names}

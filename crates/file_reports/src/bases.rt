@@ -1,7 +1,7 @@
 // The base names of the slots of bodies.
 ghost use Rattle.std.specs.Prelude.{◌≡◌, IfOk};
 ghost use Rattle.checked_trees.specs.View.{view_checked_function, view_checked_program};
-ghost use Rattle.core_checks.specs.Adding as adding;
+ghost use Rattle.c_runs.specs.Adding as adding;
 ghost use Rattle.file_reports.specs.Bases.{bases_by, body_bases_by, function_bases};
 ghost use Rattle.plain_sources.specs.Built as built;
 ghost use Rattle.program_trees.specs.View.{view_core_program};

@@ -3,7 +3,7 @@ use Rattle.std.specs.Prelude.{ℕ, true, List, map, ◌++◌, Option}
 use Rattle.wp_base.specs.declared.kinds.Kind.{Kind}
 use Rattle.c_runs.specs.Claims.{in_order}
 use Rattle.c_runs.specs.Program.{Function}
-use Rattle.core_checks.specs.Tree.{Steps}
+use Rattle.c_runs.specs.Tree.{Steps}
 use Rattle.program_trees.specs.View.{view_contract}
 use Rattle.walk_steps.specs.Step.{Step, seq, ask, block, remember}
 use Rattle.program_steps.specs.Temporaries.{no_temporaries}

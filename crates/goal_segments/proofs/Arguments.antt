@@ -5,7 +5,7 @@ use Rattle.std.proofs.lemmas.Bool.{false≢true, and_parts}
 use Rattle.wp_base.specs.declared.kinds.CellKind.TheVariants as cell
 use Rattle.wp_base.specs.Blocks.{Table}
 use Rattle.c_kinds.specs.Models.{holds}
-use Rattle.acsl_truth.specs.States.{Value, number, number_of}
+use Rattle.c_runs.specs.TruthStates.{Value, number, number_of}
 use Rattle.c_runs.specs.Program.{Variable, Facts}
 use Rattle.c_runs.specs.Scopes.{scalar_of}
 use Rattle.c_runs.specs.Entry.{is_value, are_arguments, leads_well, all_lead_well}

@@ -6,8 +6,8 @@ use Rattle.wp_base.specs.declared.kinds.CellKind.{CellKind}
 use Rattle.wp_base.specs.declared.kinds.CellKind.TheVariants as cell
 use Rattle.wp_base.specs.Blocks.{count}
 use Rattle.typed_prog.specs.Tree as tree
-use Rattle.acsl_truth.specs.States.{Value, number}
-use Rattle.acsl_truth.specs.Allowed.{is_named}
+use Rattle.c_runs.specs.TruthStates.{Value, number}
+use Rattle.c_runs.specs.TruthAllowed.{is_named}
 use Rattle.c_runs.specs.Program.{Variable, Facts, Function, Contract, Program}
 use Rattle.c_runs.specs.States.{Memory, World, Here, Granted}
 use Rattle.c_runs.specs.Operators.{noreturn}
@@ -16,12 +16,12 @@ use Rattle.c_runs.specs.Scopes.{arrived}
 use Rattle.c_runs.specs.Calls.{Eval, gives, stops, nought, unless, turn_by, back_in, keeps_promises, entered_by, called_by, found as found_by}
 use Rattle.c_runs.specs.Entry.{is_value, leads_well, Enters}
 use Rattle.c_runs.specs.Run as spelled
-use Rattle.core_runs.specs.Run.{CoreWorld, Ending, goes_on, exits, returns, stopped, with_eval, in_world, begun}
-use Rattle.rte_checks.specs.Checks.{Check}
-use Rattle.core_checks.specs.Tree.{Goal, nowhere, Step, call, Steps}
-use Rattle.core_checks.specs.Run as run
-use Rattle.segments.specs.Segments.{Asks, BodyEnds, behind_call}
-use Rattle.segments.specs.Segments as segment
+use Rattle.c_runs.specs.CoreRun.{CoreWorld, Ending, goes_on, exits, returns, stopped, with_eval, in_world, begun}
+use Rattle.c_runs.specs.Checks.{Check}
+use Rattle.c_runs.specs.Tree.{Goal, nowhere, Step, call, Steps}
+use Rattle.c_runs.specs.CheckedRun as run
+use Rattle.goal_segments.specs.RunSegments.{Asks, BodyEnds, behind_call}
+use Rattle.goal_segments.specs.RunSegments as segment
 use Rattle.plain_runs.specs.Told.{State, Sizes, at, value_slot, world_in, core_in, IsClean, is_integer, entry_state, behind_state}
 use Rattle.plain_runs.proofs.Told.{arrives, comes_back}
 use Rattle.plain_runs.specs.Fitting.{IsGood, Shape, sizes, Fit, AreOf, is_param, FitsFunction, FitsProgram}

@@ -1,14 +1,14 @@
 -- What is asked of the level below, and of the way in which a loop's head was come to.
 use Rattle.std.proofs.Common.{◌≡◌, ℕ, ◌≤◌, ℤ, Bool, true, List, [], Option, Some, None}
 use Rattle.std.specs.List.{list_all}
-use Rattle.acsl_truth.specs.States.{Value}
+use Rattle.c_runs.specs.TruthStates.{Value}
 use Rattle.c_runs.specs.Program.{Variable, Function, Loop, Program}
 use Rattle.c_runs.specs.States.{Memory, Here, Granted}
 use Rattle.c_runs.specs.Claims as broken
 use Rattle.c_runs.specs.Claims.{claimed, in_body, in_loop, measure_of}
-use Rattle.core_runs.specs.Run.{CoreWorld, Ending, goes_on}
-use Rattle.core_checks.specs.Tree.{Step, repeat, Steps}
-use Rattle.core_checks.specs.Run as run
+use Rattle.c_runs.specs.CoreRun.{CoreWorld, Ending, goes_on}
+use Rattle.c_runs.specs.Tree.{Step, repeat, Steps}
+use Rattle.c_runs.specs.CheckedRun as run
 use Rattle.plain_runs.specs.Told.{State, world_in, core_in, is_integer}
 use Rattle.plain_runs.specs.Fitting.{Shape, sizes, Fit, is_param, FitsStep, FitsProgram}
 use Rattle.plain_runs.specs.Kept.{AllBelow, some_sets, some_temps, IsScoped, Kept}

@@ -6,17 +6,17 @@ use Rattle.wp_base.specs.declared.kinds.CellKind.{CellKind}
 use Rattle.wp_base.specs.declared.kinds.CellKind.TheVariants as cell
 use Rattle.wp_base.specs.declared.kinds.Kind.{Kind}
 use Rattle.wp_base.specs.Blocks.{count}
-use Rattle.acsl_truth.specs.States.{Value, number, number_of, nothing_of}
+use Rattle.c_runs.specs.TruthStates.{Value, number, number_of, nothing_of}
 use Rattle.c_runs.specs.Program.{Variable, Facts, Function, Program}
 use Rattle.c_runs.specs.States.{Memory, World, Here, plain, with_local}
 use Rattle.c_runs.specs.Claims.{Stop, spent, undefined, failed}
 use Rattle.c_runs.specs.Scopes.{next_content, others, scalar_of, variable_made, plain_made, block_made, entered}
-use Rattle.core_runs.specs.Run.{CoreWorld, Ending, goes_on, exits, returns, stopped, then_do, block_end, scope_end}
-use Rattle.rte_checks.specs.Checks.{Check}
-use Rattle.core_checks.specs.Tree.{Step, Steps, then_}
-use Rattle.core_checks.specs.Run as run
-use Rattle.segments.specs.Segments.{Asks, all_met, met, unmet, BlockEnds, Leaves, by_exit, by_return, by_stop}
-use Rattle.segments.specs.Segments as segment
+use Rattle.c_runs.specs.CoreRun.{CoreWorld, Ending, goes_on, exits, returns, stopped, then_do, block_end, scope_end}
+use Rattle.c_runs.specs.Checks.{Check}
+use Rattle.c_runs.specs.Tree.{Step, Steps, then_}
+use Rattle.c_runs.specs.CheckedRun as run
+use Rattle.goal_segments.specs.RunSegments.{Asks, all_met, met, unmet, BlockEnds, Leaves, by_exit, by_return, by_stop}
+use Rattle.goal_segments.specs.RunSegments as segment
 use Rattle.plain_runs.specs.Told.{is_integer, are_one_integer, kind_in, kind_of}
 use Rattle.plain_runs.proofs.Told.{listed_integer, cell_of_integer, content_number, when_true}
 use Rattle.plain_runs.proofs.Scopes.{on_bool}

@@ -9,17 +9,17 @@ use Rattle.wp_base.specs.Blocks.{Table, count, is_cell}
 use Rattle.c_kinds.specs.Models.{holds}
 use Rattle.qed_terms.specs.Operators.{is_zero, is_equal}
 use Rattle.acsl_trees.specs.Tree.{Tree}
-use Rattle.acsl_truth.specs.States.{Value, World as Labelled, number, is_negative}
-use Rattle.acsl_truth.specs.Allowed.{lies_in, is_named, Allows}
+use Rattle.c_runs.specs.TruthStates.{Value, World as Labelled, number, is_negative}
+use Rattle.c_runs.specs.TruthAllowed.{lies_in, is_named, Allows}
 use Rattle.c_runs.specs.Program.{Variable, Facts, Loop, Behavior, Contract}
 use Rattle.c_runs.specs.States.{Local, plain, unset, Memory, World, Here, Granted, hidden, plain_globals, home_from, global_home, cell_by, params_from, seen, seen_by_contract, held_by}
 use Rattle.c_runs.specs.Claims.{may_change, lets_cell, may_change_local, granted_by, granted_in, in_body, in_loop, at_entry, is_assumed, regions_of, parts_of}
 use Rattle.c_runs.specs.Scopes.{scalar_of}
 use Rattle.c_runs.specs.Entry.{is_value, leads_well, IsWellFormed}
 use Rattle.c_runs.specs.Allowed.{SetAllows, PartAllows, AllAllow, MayChange}
-use Rattle.core_runs.specs.Run.{CoreWorld}
-use Rattle.rte_checks.specs.Tests.{is_set_by}
-use Rattle.core_checks.specs.Tree.{Steps}
+use Rattle.c_runs.specs.CoreRun.{CoreWorld}
+use Rattle.c_runs.specs.Tests.{is_set_by}
+use Rattle.c_runs.specs.Tree.{Steps}
 use Rattle.plain_runs.specs.Told.{State, Sizes, at, held, value_slot, local_value, local_flag, temp_slot, local_in, cell_in, memory_in, world_in, core_in}
 use Rattle.plain_runs.specs.Told.{is_integer, are_one_integer, kind_in, kind_of}
 use Rattle.plain_runs.proofs.Told.{equal_is, found_below, listed_integer, cell_of_integer, when_true}

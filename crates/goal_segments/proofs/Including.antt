@@ -7,8 +7,8 @@ use Rattle.wp_base.specs.declared.kinds.CellKind.TheVariants as cell
 use Rattle.wp_base.specs.Blocks.{count}
 use Rattle.qed_terms.specs.Operators.{is_equal}
 use Rattle.acsl_trees.specs.Tree.{Tree}
-use Rattle.acsl_truth.specs.States.{Value, World as Labelled, span_of, cells_of, covers, is_negative}
-use Rattle.acsl_truth.specs.Allowed.{is_named}
+use Rattle.c_runs.specs.TruthStates.{Value, World as Labelled, span_of, cells_of, covers, is_negative}
+use Rattle.c_runs.specs.TruthAllowed.{is_named}
 use Rattle.c_runs.specs.Program.{Facts, Loop, Behavior}
 use Rattle.c_runs.specs.States.{World, Here, Granted, hidden, plain_globals, seen}
 use Rattle.c_runs.specs.Claims.{may_change_local, lets_local, granted_by, granted_in, of_caller, in_body, in_loop, is_assumed, regions_of}

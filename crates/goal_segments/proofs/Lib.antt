@@ -1,3 +1,6 @@
+pub mod Agreeing
+pub mod Whole
+mod Found
 pub mod Including
 pub mod Heads
 pub mod Singles

@@ -2,15 +2,15 @@
 use Rattle.std.proofs.Common.{◌≡◌, ℕ, zero, suc, ◌≤◌, ℤ, Bool, true, false, List, [], Option, Some, None, is_some, refl, sym, ap, ◌∙◌, subst}
 use Rattle.std.specs.List.{list_all}
 use Rattle.std.proofs.lemmas.Bool.{false≢true}
-use Rattle.acsl_truth.specs.States.{Value, World as Labelled}
+use Rattle.c_runs.specs.TruthStates.{Value, World as Labelled}
 use Rattle.c_runs.specs.Program.{Variable, Function, Loop, Measure, Facts, Program}
 use Rattle.c_runs.specs.States.{Memory, World, Here, Granted}
 use Rattle.c_runs.specs.Claims as broken
 use Rattle.c_runs.specs.Claims.{Stop, spent, or_stop, claimed, in_body, in_loop, measure_of, variant_holds}
-use Rattle.core_runs.specs.Run.{CoreWorld, Ending, goes_on, exits, returns, stopped, then_do, unless, one_turn}
-use Rattle.core_checks.specs.Tree.{Step, repeat, Steps}
-use Rattle.core_checks.specs.Run as run
-use Rattle.segments.specs.Segments.{by_exit, by_return, by_stop}
+use Rattle.c_runs.specs.CoreRun.{CoreWorld, Ending, goes_on, exits, returns, stopped, then_do, unless, one_turn}
+use Rattle.c_runs.specs.Tree.{Step, repeat, Steps}
+use Rattle.c_runs.specs.CheckedRun as run
+use Rattle.goal_segments.specs.RunSegments.{by_exit, by_return, by_stop}
 use Rattle.plain_runs.specs.Told.{State, world_in, core_in, is_integer}
 use Rattle.plain_runs.specs.Fitting.{IsGood, Shape, sizes, Fit, FitsStep, FitsProgram}
 use Rattle.plain_runs.specs.Kept.{AllBelow, some_sets, some_temps, IsScoped, Kept, Returned, Comes}

@@ -3,16 +3,16 @@ use Rattle.std.proofs.Common.{◌≡◌, ℕ, zero, suc, ℤ, Bool, true, false,
 use Rattle.std.specs.List.{list_all}
 use Rattle.std.proofs.lemmas.Bool.{false≢true}
 use Rattle.wp_base.specs.Blocks.{count}
-use Rattle.acsl_truth.specs.States.{Value, number}
+use Rattle.c_runs.specs.TruthStates.{Value, number}
 use Rattle.c_runs.specs.Program.{Function, Program}
 use Rattle.c_runs.specs.States.{Memory, World, Here}
 use Rattle.c_runs.specs.Claims.{Stop, spent, unless_true, requires, required, is_required, decreased, measure_of, at_entry, granted_in, parts_of, here_in}
 use Rattle.c_runs.specs.Calls.{Eval, gives, stops, unless, turn_by, entered_by, found as found_by}
 use Rattle.c_runs.specs.Entry.{Enters}
 use Rattle.c_runs.specs.Run as spelled
-use Rattle.core_runs.specs.Run.{stopped, begun}
-use Rattle.core_checks.specs.Tree.{Steps}
-use Rattle.core_checks.specs.Run as run
+use Rattle.c_runs.specs.CoreRun.{stopped, begun}
+use Rattle.c_runs.specs.Tree.{Steps}
+use Rattle.c_runs.specs.CheckedRun as run
 use Rattle.plain_runs.specs.Told.{State, world_in}
 use Rattle.plain_runs.specs.Fitting.{IsGood, Shape, sizes, AreOf, is_param, FitsProgram}
 use Rattle.plain_runs.specs.Kept.{AllBelow}

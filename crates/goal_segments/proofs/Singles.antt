@@ -9,16 +9,16 @@ use Rattle.typed_prog.specs.declared.operators.Path.{Path}
 use Rattle.typed_prog.specs.declared.operators.Root.TheVariants as root
 use Rattle.typed_prog.specs.declared.operators.Variable.TheVariants as variable
 use Rattle.typed_prog.specs.Tree as tree
-use Rattle.acsl_truth.specs.States.{Value, pointer}
+use Rattle.c_runs.specs.TruthStates.{Value, pointer}
 use Rattle.c_runs.specs.Program.{Variable, Function, Program}
 use Rattle.c_runs.specs.States.{World, Here, Granted, plain, with_local, with_memory, stored_in, plain_globals}
 use Rattle.c_runs.specs.Objects.{plain_root, is_plain_in, cell_of, address, along, start as start_at}
 use Rattle.c_runs.specs.Claims.{may_change, may_change_local}
 use Rattle.c_runs.specs.Effects.{granted, cell_written, kind_there, wrote_act}
-use Rattle.core_runs.specs.Run.{CoreWorld, Ending, goes_on, with_eval, in_world}
-use Rattle.rte_checks.specs.Checks.{Check}
-use Rattle.core_checks.specs.Tree.{Goal, nowhere, temporary, place, variable as to_variable, Step, set, store, start, call, branch, repeat, around, exit, give, claim, scope, Steps}
-use Rattle.core_checks.specs.Run as run
+use Rattle.c_runs.specs.CoreRun.{CoreWorld, Ending, goes_on, with_eval, in_world}
+use Rattle.c_runs.specs.Checks.{Check}
+use Rattle.c_runs.specs.Tree.{Goal, nowhere, temporary, place, variable as to_variable, Step, set, store, start, call, branch, repeat, around, exit, give, claim, scope, Steps}
+use Rattle.c_runs.specs.CheckedRun as run
 use Rattle.plain_runs.specs.Told.{is_integer, are_one_integer}
 use Rattle.plain_runs.proofs.Told.{found_below, listed_integer}
 use Rattle.plain_runs.specs.Fitting.{Shape, LeadsTo, to_local, to_global, Receives, by_temporary, by_place, by_variable, FitsStep}

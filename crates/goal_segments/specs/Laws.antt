@@ -1,16 +1,16 @@
 -- What is so of segment runs.
 use Rattle.std.specs.Prelude.{◌≡◌, ℕ, Bool, true, false, ◌&&◌, List, Some}
-use Rattle.acsl_truth.specs.States.{Value}
+use Rattle.c_runs.specs.TruthStates.{Value}
 use Rattle.c_runs.specs.Program.{Stmts, Function, Program}
 use Rattle.c_runs.specs.States.{Memory, World}
 use Rattle.c_runs.specs.Claims.{Stop, spent, undefined, failed}
 use Rattle.c_runs.specs.Calls.{Eval, gives, stops}
 use Rattle.c_runs.specs.Entry.{Enters}
 use Rattle.c_runs.specs.Run as spelled
-use Rattle.core_checks.specs.Told.{normal}
-use Rattle.core_checks.specs.Adding.{add_checks}
-use Rattle.core_checks.specs.Tree.{Step, set, store, start, call, branch, repeat, around, exit, give, claim, scope, Steps, end, then_}
-use Rattle.core_checks.specs.Run.{run_function}
+use Rattle.c_runs.specs.CheckedTold.{normal}
+use Rattle.c_runs.specs.Adding.{add_checks}
+use Rattle.c_runs.specs.Tree.{Step, set, store, start, call, branch, repeat, around, exit, give, claim, scope, Steps, end, then_}
+use Rattle.c_runs.specs.CheckedRun.{run_function}
 use Rattle.plain_runs.specs.Fitting.{FitsProgram}
 use Rattle.goal_segments.specs.Segments.{FunctionSeg}
 

@@ -1,3 +1,5 @@
+pub mod RunSegments
+pub mod RunLaws
 pub mod Sets
 pub mod Segments
 pub mod Laws

@@ -7,8 +7,8 @@ use Rattle.wp_base.specs.declared.kinds.CellKind.TheVariants as cell
 use Rattle.wp_base.specs.Blocks.{Table, block_at, count, is_cell}
 use Rattle.typed_prog.specs.Tree as t
 use Rattle.acsl_trees.specs.Tree.{Tree}
-use Rattle.acsl_truth.specs.States.{Value, number, pointer}
-use Rattle.acsl_truth.specs.Allowed.{is_named}
+use Rattle.c_runs.specs.TruthStates.{Value, number, pointer}
+use Rattle.c_runs.specs.TruthAllowed.{is_named}
 use Rattle.c_runs.specs.Program.{Loop, Variable, Function, Facts, Program}
 use Rattle.c_runs.specs.States.{World, Memory, Here, Granted, Local, plain, hidden, is_nonzero, with_local, seen}
 use Rattle.c_runs.specs.Claims as broken
@@ -17,13 +17,13 @@ use Rattle.c_runs.specs.Scopes.{scalar_of, variable_made, block_made, arrived}
 use Rattle.c_runs.specs.Calls.{Eval, gives, stops, nought}
 use Rattle.c_runs.specs.Entry.{is_value, leads_well, IsWellFormed}
 use Rattle.c_runs.specs.Allowed.{MayChange}
-use Rattle.core_runs.specs.Run.{CoreWorld, Ending, goes_on, exits, returns, stopped, in_world, scope_end, begun}
-use Rattle.rte_checks.specs.Checks.{Check}
-use Rattle.rte_checks.specs.Tests.{is_met, is_set_by}
-use Rattle.core_checks.specs.Tree.{Goal, Step, set, store, start, call, branch, repeat, around, exit, give, claim, scope, Steps, end, then_}
-use Rattle.core_checks.specs.Run as run
-use Rattle.core_checks.specs.Run.{is_met_in}
-use Rattle.segments.specs.Segments.{Asks, BlockEnds, Leaves, BodyEnds, behind_call}
+use Rattle.c_runs.specs.CoreRun.{CoreWorld, Ending, goes_on, exits, returns, stopped, in_world, scope_end, begun}
+use Rattle.c_runs.specs.Checks.{Check}
+use Rattle.c_runs.specs.Tests.{is_met, is_set_by}
+use Rattle.c_runs.specs.Tree.{Goal, Step, set, store, start, call, branch, repeat, around, exit, give, claim, scope, Steps, end, then_}
+use Rattle.c_runs.specs.CheckedRun as run
+use Rattle.c_runs.specs.CheckedRun.{is_met_in}
+use Rattle.goal_segments.specs.RunSegments.{Asks, BlockEnds, Leaves, BodyEnds, behind_call}
 use Rattle.plain_runs.specs.Fitting.{IsGood}
 use Rattle.plain_runs.specs.Kept.{may_change_global, some_sets, some_temps}
 use Rattle.goal_segments.specs.Sets.{own_loop, loop_inside, call_inside}

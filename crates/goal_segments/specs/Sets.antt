@@ -4,8 +4,8 @@ use Rattle.std.specs.List.{list_all, list_any}
 use Rattle.wp_base.specs.declared.kinds.CellKind.{CellKind}
 use Rattle.wp_base.specs.Blocks.{count}
 use Rattle.qed_terms.specs.Operators.{is_equal}
-use Rattle.acsl_truth.specs.States.{Value, span_of, cells_of, address_at, is_negative}
-use Rattle.acsl_truth.specs.Allowed.{has_kind, is_named}
+use Rattle.c_runs.specs.TruthStates.{Value, span_of, cells_of, address_at, is_negative}
+use Rattle.c_runs.specs.TruthAllowed.{has_kind, is_named}
 use Rattle.c_runs.specs.Program.{Loop, Facts}
 use Rattle.c_runs.specs.States.{World, Here, Granted, plain_globals, seen}
 use Rattle.c_runs.specs.Claims.{in_body, granted_by}

@@ -10,8 +10,8 @@ use Rattle.acsl_typing.specs.Annotations.{Annotations}
 use Rattle.acsl_annotated.specs.Annotated.{file_expanded}
 use Rattle.plain_programs.specs.Told.{program_of}
 use Rattle.plain_programs.specs.Files.{BodiesStand}
-use Rattle.normal_stmts.specs.Normal.{normal}
-use Rattle.core_checks.specs.Adding.{add_checks}
+use Rattle.c_runs.specs.Normal.{normal}
+use Rattle.c_runs.specs.Adding.{add_checks}
 use Rattle.typed_runs.specs.Fitting.{FitsProgram}
 use Rattle.typed_normal.specs.Spelled.{IsKindedProgram}
 use Rattle.kinded_programs.specs.Files.{BodiesAreTyped, ValuesStand}

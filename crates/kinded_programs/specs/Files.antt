@@ -7,8 +7,8 @@ use Rattle.typed_unit.specs.Unit as u
 use Rattle.c_programs.specs.Told.{Annotations}
 use Rattle.c_programs.specs.Files.{program_of}
 use Rattle.c_runs.specs.Program.{Stmts, Variable, Function, Program}
-use Rattle.normal_stmts.specs.Normal.{normal}
-use Rattle.core_checks.specs.Adding.{add_checks}
+use Rattle.c_runs.specs.Normal.{normal}
+use Rattle.c_runs.specs.Adding.{add_checks}
 use Rattle.goal_segments.specs.Told.{is_param}
 use Rattle.run_blocks.specs.Ends.{is_short}
 use Rattle.plain_programs.specs.Files.{IsFound, IsTypedBody, BodiesStand}

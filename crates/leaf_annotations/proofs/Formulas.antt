@@ -1,8 +1,8 @@
 -- Formulas and terms of whole annotations.
 use Rattle.std.proofs.Common.{◌≡◌, [], sym, ap, ◌∙◌, subst}
 use Rattle.std.specs.Prelude.{Option, Some}
-use Rattle.acsl_truth.specs.States.{Value, number_of}
-use Rattle.acsl_truth.specs.Truth.{calls_of, named, value}
+use Rattle.c_runs.specs.TruthStates.{Value, number_of}
+use Rattle.c_runs.specs.Truth.{calls_of, named, value}
 use Rattle.acsl_encode.specs.Readings.{Reading}
 use Rattle.acsl_encode.specs.Encode.{no_names, terms_of, as_integer, as_formula, as_pointer}
 use Rattle.acsl_encode.specs.Meaning.{Holds, Means}

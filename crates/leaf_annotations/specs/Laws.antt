@@ -2,8 +2,8 @@
 use Rattle.std.specs.Prelude.{◌≡◌, ℕ, List, [], Some}
 use Rattle.acsl_trees.specs.Tree.{Tree}
 use Rattle.acsl_expand.specs.Expansion.{Definition}
-use Rattle.acsl_truth.specs.States.{World}
-use Rattle.acsl_truth.specs.Truth.{calls_of, named, value}
+use Rattle.c_runs.specs.TruthStates.{World}
+use Rattle.c_runs.specs.Truth.{calls_of, named, value}
 use Rattle.qed_terms.specs.Tree.{Tree as Term}
 use Rattle.qed_terms.specs.Meaning.{Values, World as Logic}
 use Rattle.acsl_encode.specs.Readings.{Reading}

@@ -3,7 +3,7 @@ use Rattle.std.proofs.Common.{◌≡◌, ◌<◌, ◌≤◌, ℕ, ◌+◌, List,
 use Rattle.std.proofs.lemmas.List.{at_drop_more, at_drop_all, map-append}
 use Rattle.acsl_trees.specs.declared.tree.Tree.{Tree as Code, out-Tree}
 use Rattle.acsl_trees.specs.Tree.{node, trees_of, view_tree, view_trees}
-use Rattle.acsl_truth.specs.Truth.{heads_of}
+use Rattle.c_runs.specs.Truth.{heads_of}
 use Rattle.acsl_encode.specs.Readings.{Reading, Terms}
 use Rattle.acsl_encode.specs.Encode.{Names}
 use Rattle.annotation_heads.specs.declared.terms.Terms as code

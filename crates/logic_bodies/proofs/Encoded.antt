@@ -10,7 +10,7 @@ use Rattle.acsl_trees.specs.declared.heads.Content.TheVariants as content
 use Rattle.acsl_trees.specs.declared.heads.Label.{Label}
 use Rattle.acsl_trees.specs.declared.heads.Head.TheVariants as hd
 use Rattle.acsl_trees.specs.Tree.{Tree, Trees, node, stop, more}
-use Rattle.acsl_truth.specs.Truth.{heads_of}
+use Rattle.c_runs.specs.Truth.{heads_of}
 use Rattle.qed_terms.specs.Tree.{var}
 use Rattle.acsl_encode.specs.Readings.{Global, integer_global, pointer_global, Slot, whole, any_integer, pointer, home, absent, Seen, truth, nothing, Reading}
 use Rattle.acsl_encode.specs.Encode.{Names, with_one, all_of, in_chain, of_variable, held, read, applied, called, binders, encoded, all_encoded, as_integer}

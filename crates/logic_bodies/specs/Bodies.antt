@@ -7,7 +7,7 @@ use Rattle.acsl_trees.specs.declared.heads.Content.TheVariants as content
 use Rattle.acsl_trees.specs.declared.heads.Head.{Head}
 use Rattle.acsl_trees.specs.declared.heads.Head.TheVariants as h
 use Rattle.acsl_trees.specs.Tree.{Tree, Trees, node, stop, more}
-use Rattle.acsl_truth.specs.Truth.{heads_of}
+use Rattle.c_runs.specs.Truth.{heads_of}
 use Rattle.qed_terms.specs.Tree.{Tree as Term, var}
 use Rattle.acsl_encode.specs.Readings.{Global, integer_global, pointer_global, Slot, whole, pointer, absent, Terms, truth, nothing, Common, Reading}
 use Rattle.acsl_encode.specs.Encode.{Names, with_one, all_of, in_chain, held, applied, called, integer_of, pointer_in}

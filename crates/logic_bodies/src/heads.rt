@@ -1,7 +1,7 @@
 // Nodes of bodies over what their kids come to.
 ghost use Rattle.std.specs.Prelude.{◌≡◌, map, IfOk};
 ghost use Rattle.acsl_trees.specs.Tree.{trees_of, view_trees};
-ghost use Rattle.acsl_truth.specs.Truth.{heads_of};
+ghost use Rattle.c_runs.specs.Truth.{heads_of};
 ghost use Rattle.annotation_heads.specs.View.{view_terms};
 ghost use Rattle.logic_bodies.specs.Bodies as spec;
 ghost use Rattle.logic_bodies.specs.View.{names_in, reading_in};

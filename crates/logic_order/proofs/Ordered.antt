@@ -8,7 +8,7 @@ use Rattle.c_kinds.specs.declared.models.Machdep.TheVariants as machdep
 use Rattle.c_kinds.specs.Models.{long_bits}
 use Rattle.acsl_trees.specs.Tree.{Tree}
 use Rattle.acsl_expand.specs.Expansion.{Definition, definition_at}
-use Rattle.acsl_truth.specs.Truth.{kid, test_number}
+use Rattle.c_runs.specs.Truth.{kid, test_number}
 use Rattle.qed_terms.specs.Names.{is_name}
 use Rattle.qed_terms.specs.Setting.{Logic}
 use Rattle.qed_terms.specs.Tree.{Tree as Term, var}

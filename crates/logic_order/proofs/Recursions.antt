@@ -5,7 +5,7 @@ use Rattle.std.proofs.lemmas.Bool.{and_parts, false≢true, eqb-true}
 use Rattle.typed_prog.specs.declared.operators.Comparison.TheVariants as cmp
 use Rattle.acsl_trees.specs.declared.heads.Head.TheVariants as h
 use Rattle.acsl_trees.specs.Tree.{Tree, node, stop, more, leaf, two as two_kids, three}
-use Rattle.acsl_truth.specs.Recursion.{never_calls, goes_down, IsRecursion}
+use Rattle.c_runs.specs.Recursion.{never_calls, goes_down, IsRecursion}
 use Rattle.acsl_encode.specs.Readings.{Named, one, two, Called}
 use Rattle.acsl_encode.specs.Regular.{Descends}
 use Rattle.plain_annotations.specs.Places.{is_one}

@@ -3,7 +3,7 @@ use Rattle.std.specs.Prelude.{ℕ, suc, Bool, true, not, ◌&&◌, if◌then◌e
 use Rattle.std.specs.List.{list_all}
 use Rattle.acsl_trees.specs.Tree.{Tree}
 use Rattle.acsl_expand.specs.Expansion.{Definition}
-use Rattle.acsl_truth.specs.Truth.{kid}
+use Rattle.c_runs.specs.Truth.{kid}
 use Rattle.qed_terms.specs.Names.{is_name, is_memory_name}
 use Rattle.qed_terms.specs.Setting.{Setting, all_differ, same_param}
 use Rattle.c_runs.specs.Program.{Facts}

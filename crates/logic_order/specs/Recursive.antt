@@ -4,7 +4,7 @@ use Rattle.std.specs.Prelude.{ℕ, ◌==◌, Bool, true, false, ◌&&◌, List, 
 use Rattle.typed_prog.specs.declared.operators.Comparison.TheVariants as cmp
 use Rattle.acsl_trees.specs.declared.heads.Head.TheVariants as h
 use Rattle.acsl_trees.specs.Tree.{Tree, node, stop, more}
-use Rattle.acsl_truth.specs.Recursion.{never_calls, goes_down}
+use Rattle.c_runs.specs.Recursion.{never_calls, goes_down}
 use Rattle.acsl_encode.specs.Readings.{Named}
 
 -- the name with this number

@@ -8,7 +8,7 @@ use Rattle.acsl_trees.specs.declared.tree.Tree.{Tree as Code, out-Tree}
 use Rattle.acsl_trees.specs.Tree.{Tree, node, trees_of, view_tree, view_trees}
 use Rattle.acsl_expand.specs.declared.expansion.Meant.{Meant}
 use Rattle.acsl_expand.specs.Expansion.{nought, view_meant, view_all}
-use Rattle.acsl_truth.specs.Truth.{kid}
+use Rattle.c_runs.specs.Truth.{kid}
 use Rattle.c_runs.specs.Program.{Facts}
 use Rattle.acsl_encode.specs.Readings as readings
 use Rattle.annotation_words.specs.View.{view_named}

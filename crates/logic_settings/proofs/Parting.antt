@@ -6,7 +6,7 @@ use Rattle.std.proofs.lemmas.Bool.{false≢true}
 use Rattle.acsl_trees.specs.declared.heads.Head.TheVariants as hd
 use Rattle.acsl_trees.specs.declared.tree.Tree.{Tree as Code, out-Tree}
 use Rattle.acsl_trees.specs.Tree.{Tree, node, view_tree}
-use Rattle.acsl_truth.specs.Truth.{kid, head_of, spelled_number, test_number}
+use Rattle.c_runs.specs.Truth.{kid, head_of, spelled_number, test_number}
 use Rattle.acsl_encode.specs.Readings.{Named, one, two}
 use Rattle.acsl_encode.specs.Encode.{on_two}
 use Rattle.acsl_encode.specs.Setting.{params_of, all_params, number_place}

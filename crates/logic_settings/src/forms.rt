@@ -2,7 +2,7 @@
 ghost use Rattle.std.specs.Prelude.{◌≡◌, ◌<◌, ◌&&◌, length, map, IfOk};
 ghost use Rattle.acsl_expand.specs.Expansion.{view_all, view_meant};
 ghost use Rattle.acsl_trees.specs.Tree.{view_tree};
-ghost use Rattle.acsl_truth.specs.Truth.{kid};
+ghost use Rattle.c_runs.specs.Truth.{kid};
 ghost use Rattle.annotation_words.specs.View.{view_called, view_global, view_named};
 ghost use Rattle.acsl_encode.specs.Readings as readings;
 ghost use Rattle.logic_calls.specs.View.{IsTold, view_names};

@@ -2,7 +2,7 @@
 ghost use Rattle.std.specs.Prelude.{◌≡◌, ◌++◌, ◌∷◌, [], Some, true, IfOk, map, option_map};
 ghost use Rattle.acsl_encode.specs.Setting as spec;
 ghost use Rattle.acsl_trees.specs.Tree.{view_tree};
-ghost use Rattle.acsl_truth.specs.Truth as truth;
+ghost use Rattle.c_runs.specs.Truth as truth;
 ghost use Rattle.annotation_words.specs.View.{called_in, view_called};
 ghost use Rattle.logic_order.specs.Simple as simple;
 ghost use Rattle.logic_settings.specs.Growing as growing;

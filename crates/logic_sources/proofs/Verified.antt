@@ -6,7 +6,7 @@ use Rattle.c_grammar.specs.Decls.{SpellsLines}
 use Rattle.c_typing.specs.Typing.{typed_program}
 use Rattle.c_runs.specs.Program.{Function}
 use Rattle.plain_sources.specs.Told.{notes_of, program_of, IsOfText, core_of, names_in, EachMeets, SetsStand}
-use Rattle.core_checks.specs.Tree.{Steps}
+use Rattle.c_runs.specs.Tree.{Steps}
 use Rattle.walk_steps.specs.State.{In}
 use Rattle.plain_test.specs.Plain.{is_plain_file}
 use Rattle.plain_sources.proofs.Told.{is_found, core_found, body_in, files_in_order_meet, plain_texts_stand}

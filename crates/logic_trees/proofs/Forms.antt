@@ -7,8 +7,8 @@ use Rattle.acsl_trees.specs.declared.heads.Head.{Head}
 use Rattle.acsl_trees.specs.declared.heads.Head.TheVariants as hd
 use Rattle.acsl_trees.specs.declared.tree.Tree.{Tree as Code, out-Tree}
 use Rattle.acsl_trees.specs.Tree.{Tree, Trees, node, stop, more, trees_of, view_tree, view_trees}
-use Rattle.acsl_truth.specs.Truth.{head_of}
-use Rattle.acsl_truth.specs.Recursion.{is_one_less, last_kid}
+use Rattle.c_runs.specs.Truth.{head_of}
+use Rattle.c_runs.specs.Recursion.{is_one_less, last_kid}
 use Rattle.logic_order.specs.Recursive.{is_name_of, is_number, is_bound, is_recursion}
 use Rattle.logic_trees.specs.Heads.{name_in, number_in, is_name, is_subtraction, is_choice, is_at_most}
 use Rattle.logic_trees.specs.Every.{is_step, are_ends, are_parts}

@@ -13,8 +13,8 @@ use Rattle.acsl_trees.specs.declared.heads.Head.TheVariants as hd
 use Rattle.acsl_trees.specs.declared.tree.Tree.{Tree as Code, out-Tree, roll-out-Tree}
 use Rattle.acsl_trees.specs.Tree.{Tree, node, trees_of, view_tree, view_trees}
 use Rattle.acsl_trees.proofs.Equations.{view_made}
-use Rattle.acsl_truth.specs.Truth.{heads_of, head_of}
-use Rattle.acsl_truth.specs.Recursion.{is_one}
+use Rattle.c_runs.specs.Truth.{heads_of, head_of}
+use Rattle.c_runs.specs.Recursion.{is_one}
 use Rattle.qed_terms.specs.Operators.{is_equal}
 use Rattle.qed_linear.proofs.Facts.{equal_is}
 use Rattle.acsl_encode.specs.Told.{node_reads}

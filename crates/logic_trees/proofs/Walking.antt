@@ -5,8 +5,8 @@ use Rattle.std.proofs.lemmas.List.{at_drop_more, at_drop_all}
 use Rattle.acsl_trees.specs.declared.heads.Head.{Head}
 use Rattle.acsl_trees.specs.declared.tree.Tree.{Tree as Code, out-Tree}
 use Rattle.acsl_trees.specs.Tree.{Tree, Trees, node, stop, more, trees_of, view_tree, view_trees}
-use Rattle.acsl_truth.specs.Truth.{heads_of}
-use Rattle.acsl_truth.specs.Recursion.{never_calls, none_calls, goes_down, all_go_down}
+use Rattle.c_runs.specs.Truth.{heads_of}
+use Rattle.c_runs.specs.Recursion.{never_calls, none_calls, goes_down, all_go_down}
 use Rattle.acsl_encode.specs.Told.{node_reads, reads, some_reads}
 use Rattle.logic_order.specs.Simple.{is_simple, are_simple}
 use Rattle.logic_trees.specs.Asking.{asks, told_in}

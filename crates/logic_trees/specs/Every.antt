@@ -2,8 +2,8 @@
 use Rattle.std.specs.Prelude.{ℕ, Bool, true, false, not, ◌&&◌, if◌then◌else◌}
 use Rattle.acsl_trees.specs.declared.heads.Head.{Head}
 use Rattle.acsl_trees.specs.Tree.{Tree, Trees, node, stop, more}
-use Rattle.acsl_truth.specs.Truth.{heads_of}
-use Rattle.acsl_truth.specs.Recursion.{is_own, is_plain, last_kid, is_one_less, never_calls, goes_down}
+use Rattle.c_runs.specs.Truth.{heads_of}
+use Rattle.c_runs.specs.Recursion.{is_own, is_plain, last_kid, is_one_less, never_calls, goes_down}
 use Rattle.acsl_encode.specs.Told.{node_reads}
 use Rattle.plain_annotations.specs.Plain.{is_read}
 use Rattle.logic_order.specs.Recursive.{is_name_of, is_number, is_bound}

@@ -5,7 +5,7 @@ use Rattle.typed_prog.specs.declared.operators.Arithmetic.TheVariants as ar
 use Rattle.typed_prog.specs.declared.operators.Comparison.TheVariants as cmp
 use Rattle.acsl_trees.specs.declared.heads.Head.{Head}
 use Rattle.acsl_trees.specs.declared.heads.Head.TheVariants as h
-use Rattle.acsl_truth.specs.Recursion.{is_one}
+use Rattle.c_runs.specs.Recursion.{is_one}
 
 abbrev pub name_in : Head → Option ℕ
 name_in (h.Name x) = Some x

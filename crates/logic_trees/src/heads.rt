@@ -1,8 +1,8 @@
 // What is looked at in a node.
 ghost use Rattle.std.specs.Prelude.{◌≡◌};
 ghost use Rattle.acsl_trees.specs.Tree.{trees_of, view_trees};
-ghost use Rattle.acsl_truth.specs.Recursion as recursion;
-ghost use Rattle.acsl_truth.specs.Truth.{heads_of};
+ghost use Rattle.c_runs.specs.Recursion as recursion;
+ghost use Rattle.c_runs.specs.Truth.{heads_of};
 ghost use Rattle.logic_trees.specs.Heads as spec;
 ghost use Rattle.plain_annotations.specs.Plain as plain;
 ghost use Rattle.qed_terms.specs.Operators.{is_equal as equal};

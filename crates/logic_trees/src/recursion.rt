@@ -1,7 +1,7 @@
 // The form of logic functions that call themselves (ACSL 2.6.3).
 ghost use Rattle.std.specs.Prelude.{◌≡◌};
 ghost use Rattle.acsl_trees.specs.Tree.{node, trees_of, view_tree, view_trees};
-ghost use Rattle.acsl_truth.specs.Recursion as recursion;
+ghost use Rattle.c_runs.specs.Recursion as recursion;
 ghost use Rattle.logic_order.specs.Recursive as spec;
 ghost use Rattle.logic_trees.specs.Every as every;
 ghost use Rattle.std.specs.Option.{is_some};

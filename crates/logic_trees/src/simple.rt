@@ -1,7 +1,7 @@
 // Bodies over plain integers that bind no names (ACSL 2.2).
 ghost use Rattle.std.specs.Prelude.{◌≡◌};
 ghost use Rattle.acsl_trees.specs.Tree.{trees_of, view_trees};
-ghost use Rattle.acsl_truth.specs.Truth.{heads_of};
+ghost use Rattle.c_runs.specs.Truth.{heads_of};
 ghost use Rattle.logic_order.specs.Simple as spec;
 
 use crate::heads::first_global;

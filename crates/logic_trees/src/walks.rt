@@ -2,7 +2,7 @@
 ghost use Rattle.std.specs.Prelude.{◌≡◌};
 ghost use Rattle.acsl_encode.specs.Told as told;
 ghost use Rattle.acsl_trees.specs.Tree.{trees_of, view_tree, view_trees};
-ghost use Rattle.acsl_truth.specs.Recursion as recursion;
+ghost use Rattle.c_runs.specs.Recursion as recursion;
 ghost use Rattle.logic_order.specs.Simple as simple;
 ghost use Rattle.logic_trees.specs.Asking.{asks, told_in};
 ghost use Rattle.logic_trees.specs.Every as spec;

@@ -4,7 +4,7 @@ use Rattle.std.proofs.lemmas.List.{at_drop_more, at_drop_all}
 use Rattle.core_trees.specs.View.{view_variable, view_variables}
 use Rattle.core_trees.specs.declared.variables.FunctionVariable.{FunctionVariable}
 use Rattle.c_runs.specs.Program.{Variable, Contract, Loop, Facts}
-use Rattle.core_checks.specs.Tree.{Steps}
+use Rattle.c_runs.specs.Tree.{Steps}
 use Rattle.plain_runs.specs.Fitting.{Shape}
 use Rattle.plain_states.specs.Scopes.{kind_of}
 use Rattle.walk_steps.specs.Step.{Change, keeps}

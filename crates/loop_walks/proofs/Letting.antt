@@ -5,7 +5,7 @@ use Rattle.std.specs.Borrow.{Bor}
 use Rattle.typed_prog.specs.declared.operators.Variable.TheVariants as variables
 use Rattle.acsl_trees.specs.Tree.{view_trees}
 use Rattle.acsl_trees.specs.declared.tree.Tree.{Tree as Code}
-use Rattle.core_checks.specs.Tree.{Steps}
+use Rattle.c_runs.specs.Tree.{Steps}
 use Rattle.core_trees.specs.View.{view_loop}
 use Rattle.core_trees.specs.declared.claims.Loop.{Loop}
 use Rattle.c_runs.specs.Program.{Contract}

@@ -1,6 +1,6 @@
 // Which variables the turns of a loop change (ACSL 2.4.2).
 ghost use Rattle.std.specs.Prelude.{◌≡◌, ◌<◌, ◌&&◌, ℕ, List, length, IfOk};
-ghost use Rattle.core_checks.specs.Tree.{Steps};
+ghost use Rattle.c_runs.specs.Tree.{Steps};
 ghost use Rattle.core_trees.specs.View.{view_loop};
 ghost use Rattle.loop_words.specs.Sets as spec;
 ghost use Rattle.plain_runs.specs.Kept.{some_sets};

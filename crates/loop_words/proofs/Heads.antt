@@ -4,15 +4,15 @@ use Rattle.std.specs.Prelude.{nat_lt, int_le}
 use Rattle.std.proofs.lemmas.Bool.{false≢true, and_parts, ltb-true, ltb-false, lt-ltb, le-leb, leb-true}
 use Rattle.wp_base.specs.Blocks.{Table, count}
 use Rattle.c_kinds.specs.Models.{holds}
-use Rattle.acsl_truth.specs.States.{number, number_of}
+use Rattle.c_runs.specs.TruthStates.{number, number_of}
 use Rattle.qed_terms.specs.Meaning as sense
 use Rattle.qed_terms.specs.Operators.{is_equal}
 use Rattle.c_runs.specs.Program.{Variable, Contract, Loop, Facts}
 use Rattle.c_runs.specs.States.{Here, Local, plain, held_by}
 use Rattle.c_runs.specs.Entry.{is_value, is_placed}
-use Rattle.core_runs.specs.Run.{CoreWorld}
-use Rattle.rte_checks.specs.Tests.{is_set_by}
-use Rattle.core_checks.specs.Tree.{Steps}
+use Rattle.c_runs.specs.CoreRun.{CoreWorld}
+use Rattle.c_runs.specs.Tests.{is_set_by}
+use Rattle.c_runs.specs.Tree.{Steps}
 use Rattle.goal_segments.specs.Segments.{LocalGoesOn, AtHead}
 use Rattle.plain_states.specs.Slots.{State, at, double, value_slot, flag_slot, local_value, local_flag, temp_slot}
 use Rattle.plain_states.specs.Scopes.{later_slots, kind_of}

@@ -9,10 +9,10 @@ use Rattle.c_runs.specs.Program.{Contract, Loop, Facts, Program}
 use Rattle.c_runs.specs.States.{Here, seen}
 use Rattle.c_runs.specs.Claims as broken
 use Rattle.c_runs.specs.Claims.{Stop, failed, claimed, in_body, measure_of}
-use Rattle.core_runs.specs.Run as run
-use Rattle.core_runs.specs.Run.{CoreWorld, Ending, stopped}
-use Rattle.core_checks.specs.Tree.{Steps, repeat}
-use Rattle.segments.specs.Segments.{Leaves}
+use Rattle.c_runs.specs.CoreRun as run
+use Rattle.c_runs.specs.CoreRun.{CoreWorld, Ending, stopped}
+use Rattle.c_runs.specs.Tree.{Steps, repeat}
+use Rattle.goal_segments.specs.RunSegments.{Leaves}
 use Rattle.goal_segments.specs.Sets.{own_loop, loop_inside}
 use Rattle.goal_segments.specs.Segments as segs
 use Rattle.goal_segments.specs.Segments.{AtHead}

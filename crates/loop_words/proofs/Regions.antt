@@ -10,9 +10,9 @@ use Rattle.wp_base.specs.declared.kinds.Kind.{Kind}
 use Rattle.typed_prog.specs.declared.operators.Variable as code
 use Rattle.typed_prog.specs.declared.operators.Variable.TheVariants as variables
 use Rattle.acsl_trees.specs.Tree as acsl
-use Rattle.acsl_truth.specs.States as labelled
-use Rattle.acsl_truth.specs.States.{Value, covers, one_address, region, span_of, is_negative}
-use Rattle.acsl_truth.specs.Allowed.{is_named}
+use Rattle.c_runs.specs.TruthStates as labelled
+use Rattle.c_runs.specs.TruthStates.{Value, covers, one_address, region, span_of, is_negative}
+use Rattle.c_runs.specs.TruthAllowed.{is_named}
 use Rattle.qed_terms.specs.Operators.{is_zero, is_equal}
 use Rattle.c_runs.specs.Program.{Facts}
 use Rattle.c_runs.specs.States.{Granted, plain_globals, hidden}

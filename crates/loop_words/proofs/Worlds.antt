@@ -8,7 +8,7 @@ use Rattle.wp_base.specs.Blocks.{Table, is_cell, has_layout}
 use Rattle.c_kinds.specs.Models.{holds}
 use Rattle.typed_prog.specs.declared.operators.Variable.TheVariants as variables
 use Rattle.acsl_trees.specs.Tree as acsl
-use Rattle.acsl_truth.specs.States.{number}
+use Rattle.c_runs.specs.TruthStates.{number}
 use Rattle.qed_terms.specs.Meaning as sense
 use Rattle.qed_terms.specs.Operators.{is_zero, is_equal}
 use Rattle.c_runs.specs.Program.{Variable, Contract, Loop, Facts}
@@ -16,9 +16,9 @@ use Rattle.c_runs.specs.States.{Memory, World, Here, Local, plain, seen}
 use Rattle.c_runs.specs.Claims.{may_change, in_body}
 use Rattle.c_runs.specs.Scopes.{scalar_of}
 use Rattle.c_runs.specs.Entry.{is_value, is_placed, is_home, leads_well}
-use Rattle.core_runs.specs.Run.{CoreWorld}
-use Rattle.rte_checks.specs.Tests.{is_set_by}
-use Rattle.core_checks.specs.Tree.{Steps}
+use Rattle.c_runs.specs.CoreRun.{CoreWorld}
+use Rattle.c_runs.specs.Tests.{is_set_by}
+use Rattle.c_runs.specs.Tree.{Steps}
 use Rattle.goal_segments.specs.Sets.{own_loop}
 use Rattle.goal_segments.specs.Segments.{LocalGoesOn, lets_at_head, own_regions, AtHead}
 use Rattle.goal_segments.proofs.Heads.{same_blocks}

@@ -13,7 +13,7 @@ use Rattle.acsl_trees.specs.declared.heads.Head.TheVariants as head
 use Rattle.qed_terms.specs.Meaning as sense
 use Rattle.qed_terms.specs.Tree.{Tree, num, false_tree, less, equal, imp_of}
 use Rattle.c_runs.specs.Program.{Variable, Contract, Loop, Facts}
-use Rattle.core_checks.specs.Tree.{Steps, variable as to_variable, call, end, then_}
+use Rattle.c_runs.specs.Tree.{Steps, variable as to_variable, call, end, then_}
 use Rattle.plain_runs.specs.Fitting.{Shape}
 use Rattle.walk_steps.specs.Forms.{Place}
 use Rattle.walk_steps.specs.Step.{Change, skip, keeps, raised, places}

@@ -3,7 +3,7 @@
 use Rattle.std.specs.Prelude.{◌≡◌, ◌≤◌, ◌⊎◌, ℕ, Bool, true, false, List, Some}
 use Rattle.qed_terms.specs.Meaning as sense
 use Rattle.c_runs.specs.Program.{Claim, Measure, Behavior, Contract, Loop, Facts}
-use Rattle.core_checks.specs.Tree.{Steps}
+use Rattle.c_runs.specs.Tree.{Steps}
 use Rattle.plain_runs.specs.Fitting.{Shape}
 use Rattle.plain_runs.specs.Kept.{some_temps}
 use Rattle.program_steps.specs.Temporaries.{Temporaries, no_temporaries, all_live}

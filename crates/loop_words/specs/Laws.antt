@@ -4,8 +4,8 @@ use Rattle.wp_base.specs.Blocks.{Table}
 use Rattle.qed_terms.specs.Meaning as sense
 use Rattle.c_runs.specs.Program.{Contract, Loop, Facts, Program}
 use Rattle.c_runs.specs.States.{Here}
-use Rattle.core_runs.specs.Run.{CoreWorld}
-use Rattle.core_checks.specs.Tree.{Steps, repeat}
+use Rattle.c_runs.specs.CoreRun.{CoreWorld}
+use Rattle.c_runs.specs.Tree.{Steps, repeat}
 use Rattle.goal_segments.specs.Segments.{Seg, AllSeg}
 use Rattle.plain_states.specs.Slots.{State}
 use Rattle.plain_runs.specs.Fitting.{Shape}

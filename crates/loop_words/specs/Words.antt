@@ -10,7 +10,7 @@ use Rattle.qed_terms.specs.Meaning as sense
 use Rattle.qed_terms.specs.Tree.{Tree, num, at_most, less}
 use Rattle.c_runs.specs.Program.{Variable, Claim, Measure, Behavior, Contract, Loop, Facts}
 use Rattle.c_runs.specs.Claims as broken
-use Rattle.core_checks.specs.Tree.{Steps}
+use Rattle.c_runs.specs.Tree.{Steps}
 use Rattle.plain_states.specs.Scopes.{kind_of}
 use Rattle.plain_runs.specs.Fitting.{Shape}
 use Rattle.walk_steps.specs.Forms.{Check}

@@ -15,7 +15,7 @@ use Rattle.acsl_trees.specs.declared.heads.Head.{Head}
 use Rattle.acsl_trees.specs.declared.heads.Head.TheVariants as hd
 use Rattle.acsl_trees.specs.declared.tree.Tree.{Tree as Code, out-Tree}
 use Rattle.acsl_trees.specs.Tree.{Trees, trees_of, view_tree, view_trees}
-use Rattle.acsl_truth.specs.Truth.{heads_of}
+use Rattle.c_runs.specs.Truth.{heads_of}
 use Rattle.qed_terms.specs.Tree.{var}
 use Rattle.acsl_encode.specs.Readings.{Reading, Terms, integer, nothing, moved_to}
 use Rattle.acsl_encode.specs.Encode as encode

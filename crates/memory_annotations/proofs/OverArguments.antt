@@ -11,7 +11,7 @@ use Rattle.typed_prog.specs.Tree.{Values}
 use Rattle.acsl_trees.specs.Tree as acsl
 use Rattle.c_runs.specs.Program as program
 use Rattle.c_runs.specs.Program.{Function, Facts}
-use Rattle.core_checks.specs.Tree.{Steps}
+use Rattle.c_runs.specs.Tree.{Steps}
 use Rattle.value_terms.specs.Readings.{Term, term_at}
 use Rattle.acsl_encode.specs.Readings.{whole, pointer}
 use Rattle.walk_steps.specs.State.{at_or}

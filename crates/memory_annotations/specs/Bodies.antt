@@ -2,7 +2,7 @@
 use Rattle.std.specs.Prelude.{ℕ, pos, List, [], Option, Some, None}
 use Rattle.qed_terms.specs.Tree.{num}
 use Rattle.c_runs.specs.Program.{Function, Facts}
-use Rattle.core_checks.specs.Tree.{Steps}
+use Rattle.c_runs.specs.Tree.{Steps}
 use Rattle.value_terms.specs.Readings.{Term}
 use Rattle.walk_steps.specs.State.{at_or}
 use Rattle.memory_steps.specs.Forms.{Slots}

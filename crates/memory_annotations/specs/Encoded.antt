@@ -4,7 +4,7 @@ use Rattle.acsl_trees.specs.declared.heads.Content.{Content}
 use Rattle.acsl_trees.specs.declared.heads.Head.TheVariants as h
 use Rattle.acsl_trees.specs.declared.heads.Range.{Range}
 use Rattle.acsl_trees.specs.Tree.{Tree, Trees}
-use Rattle.acsl_truth.specs.Truth.{heads_of}
+use Rattle.c_runs.specs.Truth.{heads_of}
 use Rattle.qed_terms.specs.Tree.{var}
 use Rattle.acsl_encode.specs.Readings.{Reading, Terms, integer}
 use Rattle.acsl_encode.specs.Encode.{Names, terms_at, first, last_of, with_name, encoded, all_encoded, quantified, ends_of, as_formula, kind_of, own_binders}

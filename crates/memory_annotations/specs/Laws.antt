@@ -4,7 +4,7 @@ use Rattle.std.specs.Option.{option_map}
 use Rattle.acsl_trees.specs.Tree as acsl
 use Rattle.typed_prog.specs.Tree.{Values}
 use Rattle.c_runs.specs.Program.{Function, Facts}
-use Rattle.core_checks.specs.Tree.{Steps}
+use Rattle.c_runs.specs.Tree.{Steps}
 use Rattle.qed_terms.specs.Tree.{Tree}
 use Rattle.memory_steps.specs.Forms.{Slots}
 use Rattle.memory_words.specs.Leaves.{fill, closed}

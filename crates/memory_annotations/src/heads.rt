@@ -5,7 +5,7 @@ ghost use Rattle.acsl_encode.specs.Readings as readings;
 ghost use Rattle.acsl_encode.specs.Readings.{address};
 ghost use Rattle.qed_terms.specs.Tree.{num};
 ghost use Rattle.acsl_trees.specs.Tree.{trees_of, view_trees};
-ghost use Rattle.acsl_truth.specs.Truth.{heads_of};
+ghost use Rattle.c_runs.specs.Truth.{heads_of};
 ghost use Rattle.memory_annotations.specs.Parts as parts;
 ghost use Rattle.annotation_heads.specs.View.{view_terms};
 ghost use Rattle.memory_annotations.specs.View.{view_reading, view_seen};

@@ -13,7 +13,7 @@ use Rattle.acsl_trees.specs.declared.heads.Head.TheVariants as head
 use Rattle.qed_terms.specs.Tree.{Tree, num}
 use Rattle.c_runs.specs.Program as program
 use Rattle.c_runs.specs.Program.{Function, Facts}
-use Rattle.core_checks.specs.Tree.{Steps}
+use Rattle.c_runs.specs.Tree.{Steps}
 use Rattle.value_terms.specs.Readings.{Term, term_at}
 use Rattle.acsl_encode.specs.Readings.{Slot, whole, pointer, absent, Seen, Reading, nothing}
 use Rattle.memory_steps.specs.Forms.{Slots}

@@ -4,7 +4,7 @@ use Rattle.typed_prog.specs.Tree as t
 use Rattle.acsl_trees.specs.Tree as acsl
 use Rattle.qed_terms.specs.Tree.{Tree}
 use Rattle.c_runs.specs.Program.{Function, Variable}
-use Rattle.core_checks.specs.Tree.{Steps}
+use Rattle.c_runs.specs.Tree.{Steps}
 use Rattle.core_trees.specs.declared.variables.FunctionVariable.{FunctionVariable}
 use Rattle.core_trees.specs.View.{view_variables}
 use Rattle.value_terms.specs.Readings.{Term}

@@ -3,7 +3,7 @@ use Rattle.std.specs.Prelude.{ℕ, map, Option}
 use Rattle.typed_prog.specs.Tree as t
 use Rattle.qed_terms.specs.Meaning as sense
 use Rattle.c_runs.specs.Program.{Contract, Function, Facts}
-use Rattle.core_checks.specs.Tree.{Goal, Steps}
+use Rattle.c_runs.specs.Tree.{Goal, Steps}
 use Rattle.memory_steps.specs.Step.{Step, seq, know}
 use Rattle.memory_words.specs.Leaves.{form}
 use Rattle.memory_words.specs.Shapes.{FileCells, Shape}

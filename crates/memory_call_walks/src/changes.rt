@@ -6,7 +6,7 @@ ghost use Rattle.acsl_encode.specs.Told.{every_cell};
 ghost use Rattle.acsl_trees.specs.Tree as acsl;
 ghost use Rattle.acsl_trees.specs.Tree.{view_trees};
 ghost use Rattle.c_runs.specs.Program.{Function};
-ghost use Rattle.core_checks.specs.Tree.{Steps};
+ghost use Rattle.c_runs.specs.Tree.{Steps};
 ghost use Rattle.core_trees.specs.View.{view_variables};
 ghost use Rattle.memory_call_walks.specs.Changed.{CallChanges, MemoriesAre};
 ghost use Rattle.memory_call_walks.specs.Changes as spec;

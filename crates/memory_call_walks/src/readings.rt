@@ -1,7 +1,7 @@
 // How a function that is called sees the terms in its caller's slots (ACSL 2.3.1).
 ghost use Rattle.std.specs.Prelude.{◌≡◌, ℕ, List, map, IfOk};
 ghost use Rattle.c_runs.specs.Program.{Function};
-ghost use Rattle.core_checks.specs.Tree.{Steps};
+ghost use Rattle.c_runs.specs.Tree.{Steps};
 ghost use Rattle.core_trees.specs.View.{view_variables};
 ghost use Rattle.memory_annotations.specs.Seen.{result_in};
 ghost use Rattle.memory_annotations.specs.View.{view_result, view_seen};

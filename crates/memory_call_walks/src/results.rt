@@ -2,7 +2,7 @@
 ghost use Rattle.std.specs.Prelude.{◌≡◌, ℕ, List, Option, true, OnOk};
 ghost use Rattle.c_runs.specs.Program as program;
 ghost use Rattle.checked_trees.specs.View.{view_goal};
-ghost use Rattle.core_checks.specs.Tree as core;
+ghost use Rattle.c_runs.specs.Tree as core;
 ghost use Rattle.memory_calls.specs.CallWords as spec;
 ghost use Rattle.memory_frames.specs.View.{bases_in, cells_in, facts_in, shape_in, view_point};
 ghost use Rattle.memory_frames.specs.declared.frames.Frame as frames;

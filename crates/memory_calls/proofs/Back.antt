@@ -10,19 +10,19 @@ use Rattle.typed_prog.specs.declared.operators.Variable as code
 use Rattle.typed_prog.specs.declared.operators.Variable.TheVariants as variables
 use Rattle.qed_terms.specs.Meaning as sense
 use Rattle.qed_terms.specs.Operators.{is_equal}
-use Rattle.acsl_truth.specs.States.{Value}
+use Rattle.c_runs.specs.TruthStates.{Value}
 use Rattle.c_runs.specs.Program.{Variable, Facts}
 use Rattle.c_runs.specs.States.{Local, plain, Memory, global_home}
 use Rattle.c_runs.specs.Scopes.{is_content}
 use Rattle.c_runs.proofs.Numbers.{equal_is, zero_when}
-use Rattle.core_runs.specs.Run.{CoreWorld}
-use Rattle.rte_checks.specs.Tests.{is_set_by}
+use Rattle.c_runs.specs.CoreRun.{CoreWorld}
+use Rattle.c_runs.specs.Tests.{is_set_by}
 use Rattle.goal_segments.specs.Told.{IsGood, IsFlag}
 use Rattle.goal_segments.specs.Segments.{SameBlocks, LocalGoesOn}
 use Rattle.goal_segments.proofs.Told.{no_negative}
 use Rattle.typed_memories.proofs.Tests.{on_test, not_both, chosen, unchosen, same_number}
-use Rattle.memory_changes.specs.Changes.{Sets}
-use Rattle.memory_changes.proofs.Tables.{grown_tables_have_the_same_blocks}
+use Rattle.typed_memories.specs.Changes.{Sets}
+use Rattle.typed_memories.proofs.Tables.{grown_tables_have_the_same_blocks}
 use Rattle.memory_steps.specs.State.{Datum, number, cells as memory_datum, State, HasSort, with_slots, with_table}
 use Rattle.memory_steps.specs.Step as step
 use Rattle.memory_steps.specs.Step.{Step, skip}

@@ -15,7 +15,7 @@ use Rattle.same_memories.specs.Alike.{Respects}
 use Rattle.c_runs.specs.Program.{Contract, Function, Facts}
 use Rattle.c_runs.specs.Claims as broken
 use Rattle.c_runs.specs.Objects.{plain_root, is_plain_in, cell_of}
-use Rattle.core_checks.specs.Tree.{Goal, Steps}
+use Rattle.c_runs.specs.Tree.{Goal, Steps}
 use Rattle.value_terms.specs.Readings.{Term, as_pointer, block_term, offset_term, number_term, plain_global}
 use Rattle.value_terms.specs.Places.{way_items}
 use Rattle.value_terms.specs.Words.{Item, asked, known, words}

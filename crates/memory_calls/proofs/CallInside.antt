@@ -6,9 +6,9 @@ use Rattle.typed_prog.specs.declared.operators.Variable as code
 use Rattle.typed_prog.specs.declared.operators.Variable.TheVariants as variables
 use Rattle.typed_prog.specs.Tree as t
 use Rattle.acsl_trees.specs.Tree as acsl
-use Rattle.acsl_truth.specs.States as labelled
-use Rattle.acsl_truth.specs.States.{Value}
-use Rattle.acsl_truth.specs.Allowed as allowed
+use Rattle.c_runs.specs.TruthStates as labelled
+use Rattle.c_runs.specs.TruthStates.{Value}
+use Rattle.c_runs.specs.TruthAllowed as allowed
 use Rattle.acsl_encode.specs.Readings as annotation
 use Rattle.acsl_encode.specs.Meaning.{Stands}
 use Rattle.qed_terms.specs.Meaning as sense
@@ -17,7 +17,7 @@ use Rattle.qed_terms.specs.Tree.{Tree, false_tree}
 use Rattle.c_runs.specs.Program.{Behavior, Function, Facts}
 use Rattle.c_runs.specs.States.{Granted}
 use Rattle.c_runs.specs.Claims.{holds, is_assumed, regions_of, granted_by, granted_in, parts_of}
-use Rattle.core_checks.specs.Tree.{Steps}
+use Rattle.c_runs.specs.Tree.{Steps}
 use Rattle.goal_segments.specs.Sets.{lets_variable, region_inside, some_inside}
 use Rattle.memory_steps.specs.State.{State}
 use Rattle.memory_words.specs.Leaves.{leaves_of, is_closed}

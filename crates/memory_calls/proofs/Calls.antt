@@ -7,20 +7,20 @@ use Rattle.wp_base.specs.Blocks.{count as blocks_of}
 use Rattle.typed_prog.specs.Tree as t
 use Rattle.qed_terms.specs.Meaning as sense
 use Rattle.acsl_trees.specs.Tree as acsl
-use Rattle.acsl_truth.specs.States as labelled
-use Rattle.acsl_truth.specs.States.{Value}
+use Rattle.c_runs.specs.TruthStates as labelled
+use Rattle.c_runs.specs.TruthStates.{Value}
 use Rattle.acsl_encode.specs.Meaning.{Stands}
 use Rattle.c_runs.specs.Program.{Measure, Contract, Function, Facts, Program}
 use Rattle.c_runs.specs.States.{World, Here}
 use Rattle.c_runs.specs.Claims as broken
 use Rattle.c_runs.specs.Claims.{Stop, failed, unless_true, is_required, required, decreased, goes_down, measure_of, in_state, at_entry, parts_of}
-use Rattle.core_runs.specs.Run.{CoreWorld, Ending, stopped, in_world}
-use Rattle.rte_checks.specs.Checks.{Check}
-use Rattle.core_checks.specs.Tree as core
-use Rattle.core_checks.specs.Tree.{Goal, Steps}
-use Rattle.core_checks.specs.Run as exec
-use Rattle.core_checks.specs.Run.{is_met_in}
-use Rattle.segments.specs.Segments.{Asks}
+use Rattle.c_runs.specs.CoreRun.{CoreWorld, Ending, stopped, in_world}
+use Rattle.c_runs.specs.Checks.{Check}
+use Rattle.c_runs.specs.Tree as core
+use Rattle.c_runs.specs.Tree.{Goal, Steps}
+use Rattle.c_runs.specs.CheckedRun as exec
+use Rattle.c_runs.specs.CheckedRun.{is_met_in}
+use Rattle.goal_segments.specs.RunSegments.{Asks}
 use Rattle.goal_segments.specs.Sets.{call_inside}
 use Rattle.goal_segments.specs.Segments as segs
 use Rattle.goal_segments.specs.Segments.{BehindCall, no_deeper, clauses_at}

@@ -5,7 +5,7 @@ use Rattle.std.specs.List.{list_all}
 use Rattle.std.proofs.lemmas.Bool.{false≢true}
 use Rattle.typed_prog.specs.Tree as t
 use Rattle.acsl_trees.specs.Tree as acsl
-use Rattle.acsl_truth.specs.States as labelled
+use Rattle.c_runs.specs.TruthStates as labelled
 use Rattle.acsl_encode.specs.Readings as annotation
 use Rattle.acsl_encode.specs.Encode as encode
 use Rattle.acsl_encode.specs.Meaning.{Stands}
@@ -15,7 +15,7 @@ use Rattle.qed_terms.specs.Tree.{Tree, num, at_most, less, and_of}
 use Rattle.c_runs.specs.Program.{Claim, Measure, Behavior, Function, Facts}
 use Rattle.c_runs.specs.Claims as broken
 use Rattle.c_runs.specs.Claims.{Stop, or_stop, unless_true, holds, number_at, claimed, all_hold, is_assumed, is_required, parts_of, ensured_by, is_less}
-use Rattle.core_checks.specs.Tree.{Steps}
+use Rattle.c_runs.specs.Tree.{Steps}
 use Rattle.memory_steps.specs.State.{State}
 use Rattle.memory_words.specs.Leaves.{is_closed, leaves_of}
 use Rattle.memory_words.specs.Shapes.{FileCells, Shape}

@@ -6,8 +6,8 @@ use Rattle.std.proofs.lemmas.Bool.{and_parts}
 use Rattle.wp_base.specs.declared.kinds.CellKind.{CellKind}
 use Rattle.wp_base.specs.Blocks.{count}
 use Rattle.acsl_trees.specs.Tree as acsl
-use Rattle.acsl_truth.specs.States as labelled
-use Rattle.acsl_truth.specs.States.{Value}
+use Rattle.c_runs.specs.TruthStates as labelled
+use Rattle.c_runs.specs.TruthStates.{Value}
 use Rattle.acsl_encode.specs.Readings as annotation
 use Rattle.acsl_encode.specs.Meaning.{HasAddress, Stands}
 use Rattle.acsl_encode.specs.Told.{those}

@@ -5,10 +5,10 @@ use Rattle.wp_base.specs.declared.kinds.CellKind.{CellKind}
 use Rattle.wp_base.specs.declared.kinds.CellKind.TheVariants as cell
 use Rattle.wp_base.specs.Blocks.{count}
 use Rattle.qed_terms.specs.Meaning as sense
-use Rattle.acsl_truth.specs.States.{Value, offset_of}
+use Rattle.c_runs.specs.TruthStates.{Value, offset_of}
 use Rattle.c_runs.specs.Program.{Contract, Function, Facts}
 use Rattle.c_runs.specs.Scopes.{is_content}
-use Rattle.core_checks.specs.Tree.{Steps}
+use Rattle.c_runs.specs.Tree.{Steps}
 use Rattle.memory_steps.specs.State.{State, Datum, number, cells as memory_datum, HasSort, IsLike, with_slots}
 use Rattle.memory_steps.specs.Forms.{AllTold}
 use Rattle.memory_steps.specs.Step.{Change}

@@ -5,7 +5,7 @@ use Rattle.std.proofs.lemmas.Bool.{false≢true, and_parts}
 use Rattle.typed_prog.specs.declared.operators.Variable.TheVariants as variables
 use Rattle.typed_prog.specs.Tree as t
 use Rattle.acsl_trees.specs.Tree as acsl
-use Rattle.acsl_truth.specs.States as labelled
+use Rattle.c_runs.specs.TruthStates as labelled
 use Rattle.acsl_encode.specs.Meaning.{Stands}
 use Rattle.qed_terms.specs.Meaning as sense
 use Rattle.qed_terms.specs.Meaning.{truth}
@@ -13,7 +13,7 @@ use Rattle.qed_terms.specs.Tree.{Tree, false_tree}
 use Rattle.c_runs.specs.Program.{Behavior, Contract, Function, Facts}
 use Rattle.c_runs.specs.States.{Granted, Here}
 use Rattle.c_runs.specs.Claims.{holds, is_assumed, in_state, regions_of, granted_by, granted_in, parts_of}
-use Rattle.core_checks.specs.Tree.{Steps}
+use Rattle.c_runs.specs.Tree.{Steps}
 use Rattle.goal_segments.specs.Sets.{some_inside, call_inside}
 use Rattle.memory_steps.specs.State.{State}
 use Rattle.memory_words.specs.Leaves.{leaves_of}

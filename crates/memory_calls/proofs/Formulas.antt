@@ -3,7 +3,7 @@ use Rattle.std.proofs.Common.{◌≡◌, Bool, true, false, not, ◌&&◌, ◌||
 use Rattle.std.specs.List.{list_all}
 use Rattle.std.proofs.lemmas.Bool.{and_parts}
 use Rattle.acsl_trees.specs.Tree as acsl
-use Rattle.acsl_truth.specs.States as labelled
+use Rattle.c_runs.specs.TruthStates as labelled
 use Rattle.acsl_encode.specs.Readings as annotation
 use Rattle.acsl_encode.specs.Meaning.{Stands}
 use Rattle.acsl_encode.specs.Encode.{all_of}

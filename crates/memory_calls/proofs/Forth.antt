@@ -9,18 +9,18 @@ use Rattle.typed_prog.specs.declared.operators.Variable as code
 use Rattle.typed_prog.specs.declared.operators.Variable.TheVariants as variables
 use Rattle.qed_terms.specs.Meaning as sense
 use Rattle.qed_terms.specs.Operators.{is_equal}
-use Rattle.acsl_truth.specs.States.{Value, offset_of}
+use Rattle.c_runs.specs.TruthStates.{Value, offset_of}
 use Rattle.c_runs.specs.Program.{Variable, Facts}
 use Rattle.c_runs.specs.States.{plain, held_by, global_home}
 use Rattle.c_runs.specs.Scopes.{is_content}
-use Rattle.core_runs.specs.Run.{CoreWorld}
-use Rattle.rte_checks.specs.Tests.{is_set_by}
+use Rattle.c_runs.specs.CoreRun.{CoreWorld}
+use Rattle.c_runs.specs.Tests.{is_set_by}
 use Rattle.goal_segments.specs.Told.{IsFlag}
 use Rattle.goal_segments.specs.Segments.{LocalGoesOn}
 use Rattle.value_terms.specs.Worlds.{flag_of}
 use Rattle.typed_memories.proofs.Tests.{on_test, not_both, chosen, unchosen, both_so}
-use Rattle.memory_changes.specs.Changes.{Sets}
-use Rattle.memory_changes.proofs.Tables.{grown_tables_have_the_same_blocks}
+use Rattle.typed_memories.specs.Changes.{Sets}
+use Rattle.typed_memories.proofs.Tables.{grown_tables_have_the_same_blocks}
 use Rattle.memory_steps.specs.State.{Datum, State, HasSort, with_table}
 use Rattle.memory_steps.specs.Step as step
 use Rattle.memory_steps.specs.Run as seg

@@ -19,8 +19,8 @@ use Rattle.typed_memories.specs.Cells.{Cells, numbers_by, pointers_by, lies_insi
 use Rattle.typed_memories.proofs.CellKinds.{same_kind}
 use Rattle.typed_memories.proofs.Tests.{on_test, both_so, or_left}
 use Rattle.typed_memories.proofs.Stated.{frames_say}
-use Rattle.memory_changes.specs.Changes.{Sets}
-use Rattle.memory_changes.proofs.Framing.{frames_are_changes}
+use Rattle.typed_memories.specs.Changes.{Sets}
+use Rattle.typed_memories.proofs.Framing.{frames_are_changes}
 use Rattle.memory_steps.specs.State.{State}
 use Rattle.memory_words.specs.Places.{Place, numbers, blocks, offsets, Sizes, memory_in, memory_at}
 use Rattle.memory_words.specs.Leaves.{or_false, closed, is_closed, leaves_of}

@@ -11,7 +11,7 @@ use Rattle.typed_prog.specs.declared.operators.Variable.TheVariants as variables
 use Rattle.acsl_trees.specs.Tree as acsl
 use Rattle.acsl_encode.specs.Readings as annotation
 use Rattle.acsl_encode.specs.Told.{every_cell, those}
-use Rattle.acsl_truth.specs.States.{Value, number, pointer, number_of, block_of, offset_of}
+use Rattle.c_runs.specs.TruthStates.{Value, number, pointer, number_of, block_of, offset_of}
 use Rattle.qed_terms.specs.Tree.{Tree, equal, imp_of}
 use Rattle.qed_terms.specs.Operators.{is_equal}
 use Rattle.qed_terms.specs.Meaning as sense
@@ -21,7 +21,7 @@ use Rattle.c_runs.specs.States.{Memory, global_home}
 use Rattle.c_runs.proofs.Numbers.{equal_is}
 use Rattle.goal_segments.specs.Segments.{SameBlocks}
 use Rattle.typed_memories.proofs.Tests.{on_test, both_so, same_number, number_same}
-use Rattle.memory_changes.specs.Changes.{Sets}
+use Rattle.typed_memories.specs.Changes.{Sets}
 use Rattle.memory_steps.specs.State.{State}
 use Rattle.memory_words.specs.Places.{Place, value, offset, Sizes, number_at}
 use Rattle.memory_words.specs.Leaves.{or_false, closed, is_closed, leaves_of}

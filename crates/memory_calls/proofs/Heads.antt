@@ -7,14 +7,14 @@ use Rattle.wp_base.specs.declared.kinds.CellKind.{CellKind}
 use Rattle.wp_base.specs.declared.kinds.CellKind.TheVariants as cell
 use Rattle.wp_base.specs.Blocks.{is_cell}
 use Rattle.typed_prog.specs.declared.operators.Variable.TheVariants as variables
-use Rattle.acsl_truth.specs.Told.{is_zero}
+use Rattle.c_runs.specs.TruthTold.{is_zero}
 use Rattle.qed_terms.specs.Meaning as sense
 use Rattle.c_runs.specs.Program.{Variable, Contract, Loop, Facts}
 use Rattle.c_runs.specs.States.{Here, Granted, global_home}
 use Rattle.c_runs.specs.Claims.{may_change, granted_in}
 use Rattle.c_runs.proofs.Numbers.{zero_when}
-use Rattle.core_runs.specs.Run.{CoreWorld}
-use Rattle.core_checks.specs.Tree.{Steps}
+use Rattle.c_runs.specs.CoreRun.{CoreWorld}
+use Rattle.c_runs.specs.Tree.{Steps}
 use Rattle.goal_segments.specs.Segments.{SameBlocks, AtHead}
 use Rattle.goal_segments.proofs.Told.{no_negative}
 use Rattle.plain_runs.specs.Kept.{may_change_global}

@@ -6,8 +6,8 @@ use Rattle.std.proofs.lemmas.Bool.{and_parts, lt-ltb}
 use Rattle.std.proofs.lemmas.Option.{none-some, same_Some}
 use Rattle.wp_base.specs.declared.kinds.CellKind.{CellKind}
 use Rattle.wp_base.specs.Blocks.{count, is_cell}
-use Rattle.acsl_truth.specs.Told.{is_zero}
-use Rattle.acsl_truth.specs.States.{Value, number, of_kind}
+use Rattle.c_runs.specs.TruthTold.{is_zero}
+use Rattle.c_runs.specs.TruthStates.{Value, number, of_kind}
 use Rattle.c_runs.specs.Program.{Variable, Facts}
 use Rattle.c_runs.specs.States.{Memory, count_plain, plain_globals, home_from, global_home}
 use Rattle.c_runs.specs.Scopes.{is_content, scalar_of}

@@ -8,9 +8,9 @@ use Rattle.wp_base.specs.Blocks.{Table, count, is_cell}
 use Rattle.typed_prog.specs.declared.operators.Variable.TheVariants as variables
 use Rattle.typed_prog.specs.Tree as t
 use Rattle.acsl_trees.specs.Tree as acsl
-use Rattle.acsl_truth.specs.States as labelled
-use Rattle.acsl_truth.specs.States.{Value, is_negative}
-use Rattle.acsl_truth.specs.Allowed.{is_named, lies_in, Allows}
+use Rattle.c_runs.specs.TruthStates as labelled
+use Rattle.c_runs.specs.TruthStates.{Value, is_negative}
+use Rattle.c_runs.specs.TruthAllowed.{is_named, lies_in, Allows}
 use Rattle.acsl_encode.specs.Readings as annotation
 use Rattle.acsl_encode.specs.Meaning.{Stands}
 use Rattle.qed_terms.specs.Memory as goal
@@ -22,12 +22,12 @@ use Rattle.c_runs.specs.Objects.{is_plain_in}
 use Rattle.c_runs.specs.States.{Memory, global_home, home_from, params_from, seen_by_contract}
 use Rattle.c_runs.specs.Allowed.{SetAllows, AllAllow}
 use Rattle.c_runs.specs.Claims.{holds, is_assumed, at_entry, regions_of, lets_cell}
-use Rattle.core_checks.specs.Tree.{Steps}
+use Rattle.c_runs.specs.Tree.{Steps}
 use Rattle.goal_segments.proofs.Told.{no_negative}
 use Rattle.typed_memories.specs.Cells.{lies_inside}
 use Rattle.typed_memories.proofs.Tests.{on_test}
-use Rattle.memory_changes.specs.Changes.{Sets}
-use Rattle.memory_changes.proofs.Tables.{cell_below, test_lt, not_le_test}
+use Rattle.typed_memories.specs.Changes.{Sets}
+use Rattle.typed_memories.proofs.Tables.{cell_below, test_lt, not_le_test}
 use Rattle.memory_steps.specs.State.{State, state}
 use Rattle.memory_words.specs.Leaves.{leaves_of}
 use Rattle.walk_steps.specs.State.{at_or}

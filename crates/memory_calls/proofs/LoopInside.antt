@@ -5,16 +5,16 @@ use Rattle.std.proofs.lemmas.Bool.{false≢true, le-leb}
 use Rattle.typed_prog.specs.declared.operators.Variable as code
 use Rattle.typed_prog.specs.declared.operators.Variable.TheVariants as variables
 use Rattle.acsl_trees.specs.Tree as acsl
-use Rattle.acsl_truth.specs.States as labelled
-use Rattle.acsl_truth.specs.States.{Value}
+use Rattle.c_runs.specs.TruthStates as labelled
+use Rattle.c_runs.specs.TruthStates.{Value}
 use Rattle.acsl_encode.specs.Meaning.{Stands}
 use Rattle.qed_terms.specs.Meaning as sense
 use Rattle.qed_terms.specs.Tree.{Tree}
 use Rattle.c_runs.specs.Program.{Behavior, Contract, Loop, Facts}
 use Rattle.c_runs.specs.States.{Here, Granted}
 use Rattle.c_runs.specs.Claims.{holds, in_state, is_assumed, regions_of, granted_by, granted_in, parts_of}
-use Rattle.core_runs.specs.Run.{CoreWorld}
-use Rattle.core_checks.specs.Tree.{Steps}
+use Rattle.c_runs.specs.CoreRun.{CoreWorld}
+use Rattle.c_runs.specs.Tree.{Steps}
 use Rattle.goal_segments.specs.Sets.{lets_variable, region_inside, set_inside, loop_inside}
 use Rattle.memory_steps.specs.State.{State}
 use Rattle.memory_words.specs.Leaves.{leaves_of, is_closed}

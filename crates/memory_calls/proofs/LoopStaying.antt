@@ -7,9 +7,9 @@ use Rattle.wp_base.specs.declared.kinds.CellKind.TheVariants as cell
 use Rattle.wp_base.specs.Blocks.{count, is_cell}
 use Rattle.typed_prog.specs.declared.operators.Variable.TheVariants as variables
 use Rattle.acsl_trees.specs.Tree as acsl
-use Rattle.acsl_truth.specs.States as labelled
-use Rattle.acsl_truth.specs.States.{is_negative}
-use Rattle.acsl_truth.specs.Allowed.{is_named, lies_in}
+use Rattle.c_runs.specs.TruthStates as labelled
+use Rattle.c_runs.specs.TruthStates.{is_negative}
+use Rattle.c_runs.specs.TruthAllowed.{is_named, lies_in}
 use Rattle.acsl_encode.specs.Readings as annotation
 use Rattle.acsl_encode.specs.Meaning.{Stands}
 use Rattle.qed_terms.specs.Meaning as sense
@@ -19,11 +19,11 @@ use Rattle.c_runs.specs.Program.{Variable, Behavior, Contract, Loop, Facts}
 use Rattle.c_runs.specs.States.{Here, Granted, global_home}
 use Rattle.c_runs.specs.Claims.{is_assumed, regions_of, may_change, lets_cell, granted_by, granted_in}
 use Rattle.c_runs.specs.Objects.{is_plain_in}
-use Rattle.core_runs.specs.Run.{CoreWorld}
-use Rattle.core_checks.specs.Tree.{Steps}
+use Rattle.c_runs.specs.CoreRun.{CoreWorld}
+use Rattle.c_runs.specs.Tree.{Steps}
 use Rattle.goal_segments.proofs.Told.{no_negative}
 use Rattle.typed_memories.specs.Cells.{lies_inside}
-use Rattle.memory_changes.specs.Changes.{Sets}
+use Rattle.typed_memories.specs.Changes.{Sets}
 use Rattle.memory_steps.specs.State.{State}
 use Rattle.memory_words.specs.Leaves.{leaves_of}
 use Rattle.memory_words.specs.Shapes.{FileCells, Shape}

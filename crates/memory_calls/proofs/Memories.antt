@@ -12,8 +12,8 @@ use Rattle.goal_segments.specs.Segments.{SameBlocks}
 use Rattle.goal_segments.proofs.Heads.{same_blocks}
 use Rattle.typed_memories.specs.Cells.{lies_inside}
 use Rattle.typed_memories.proofs.Tests.{on_test, not_both}
-use Rattle.memory_changes.specs.Changes.{Sets, SameHidden}
-use Rattle.memory_changes.proofs.Alone.{same_changed}
+use Rattle.typed_memories.specs.Changes.{Sets, SameHidden}
+use Rattle.typed_memories.proofs.Alone.{same_changed}
 use Rattle.memory_steps.specs.State.{State}
 use Rattle.memory_steps.specs.Run.{End, goes_on, Seg}
 use Rattle.memory_words.specs.Places.{Sizes, slots_in}

@@ -7,9 +7,9 @@ use Rattle.wp_base.specs.Blocks.{Table, count, block_cells, has_cell}
 use Rattle.typed_prog.specs.declared.operators.Variable as code
 use Rattle.typed_prog.specs.declared.operators.Variable.TheVariants as variables
 use Rattle.acsl_trees.specs.Tree as acsl
-use Rattle.acsl_truth.specs.States as labelled
-use Rattle.acsl_truth.specs.States.{is_negative}
-use Rattle.acsl_truth.specs.Allowed.{is_named, lies_in}
+use Rattle.c_runs.specs.TruthStates as labelled
+use Rattle.c_runs.specs.TruthStates.{is_negative}
+use Rattle.c_runs.specs.TruthAllowed.{is_named, lies_in}
 use Rattle.acsl_encode.specs.Meaning.{HasAddress, Stands}
 use Rattle.qed_terms.specs.Meaning as sense
 use Rattle.qed_terms.specs.Meaning.{value}
@@ -18,11 +18,11 @@ use Rattle.c_runs.specs.Program.{Variable, Contract, Loop, Facts}
 use Rattle.c_runs.specs.States.{Here, seen, global_home}
 use Rattle.c_runs.specs.Claims.{in_body, regions_of, may_change, may_change_local}
 use Rattle.c_runs.specs.Objects.{is_plain_in}
-use Rattle.core_runs.specs.Run.{CoreWorld}
-use Rattle.core_checks.specs.Tree.{Steps}
+use Rattle.c_runs.specs.CoreRun.{CoreWorld}
+use Rattle.c_runs.specs.Tree.{Steps}
 use Rattle.goal_segments.specs.Sets.{own_loop}
-use Rattle.memory_changes.specs.Changes.{LacksSince}
-use Rattle.memory_changes.proofs.Tables.{no_cell_beyond}
+use Rattle.typed_memories.specs.Changes.{LacksSince}
+use Rattle.typed_memories.proofs.Tables.{no_cell_beyond}
 use Rattle.typed_memories.proofs.Tests.{on_test}
 use Rattle.program_steps.specs.Temporaries.{Temporaries, no_temporaries, all_live}
 use Rattle.memory_steps.specs.State.{State}

@@ -12,8 +12,8 @@ use Rattle.typed_prog.specs.declared.operators.Root.TheVariants as root
 use Rattle.typed_prog.specs.declared.operators.Variable as code
 use Rattle.typed_prog.specs.declared.operators.Variable.TheVariants as variables
 use Rattle.qed_terms.specs.Meaning as sense
-use Rattle.acsl_truth.specs.States as labelled
-use Rattle.acsl_truth.specs.States.{Value}
+use Rattle.c_runs.specs.TruthStates as labelled
+use Rattle.c_runs.specs.TruthStates.{Value}
 use Rattle.c_runs.specs.Program.{Variable, Contract, Facts, Program}
 use Rattle.c_runs.specs.States.{World, Here, plain, with_local, with_memory, stored_in, global_home}
 use Rattle.c_runs.specs.Claims as broken
@@ -22,10 +22,10 @@ use Rattle.c_runs.specs.Effects as effects
 use Rattle.c_runs.specs.Effects.{granted, wrote_act, initial_act, kind_there}
 use Rattle.c_runs.specs.Objects.{plain_root, is_plain_in, cell_of, along, start as start_at, address}
 use Rattle.c_runs.specs.Scopes.{is_content}
-use Rattle.core_runs.specs.Run as run
-use Rattle.core_runs.specs.Run.{CoreWorld, Ending, with_eval, in_world}
-use Rattle.core_checks.specs.Tree.{Goal, nowhere, temporary, place, variable, Steps}
-use Rattle.core_checks.specs.Run as exec
+use Rattle.c_runs.specs.CoreRun as run
+use Rattle.c_runs.specs.CoreRun.{CoreWorld, Ending, with_eval, in_world}
+use Rattle.c_runs.specs.Tree.{Goal, nowhere, temporary, place, variable, Steps}
+use Rattle.c_runs.specs.CheckedRun as exec
 use Rattle.goal_segments.specs.Told.{goal_temp}
 use Rattle.goal_segments.specs.Segments.{no_deeper}
 use Rattle.value_terms.specs.Readings.{Term, plain_global}

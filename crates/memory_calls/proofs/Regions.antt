@@ -11,9 +11,9 @@ use Rattle.typed_prog.specs.declared.operators.Variable as code
 use Rattle.typed_prog.specs.declared.operators.Variable.TheVariants as variables
 use Rattle.acsl_trees.specs.Tree as acsl
 use Rattle.acsl_trees.specs.declared.heads.Head.TheVariants as head
-use Rattle.acsl_truth.specs.States as labelled
-use Rattle.acsl_truth.specs.States.{Value, covers, one_address, span_of, is_negative}
-use Rattle.acsl_truth.specs.Allowed.{is_named}
+use Rattle.c_runs.specs.TruthStates as labelled
+use Rattle.c_runs.specs.TruthStates.{Value, covers, one_address, span_of, is_negative}
+use Rattle.c_runs.specs.TruthAllowed.{is_named}
 use Rattle.acsl_encode.specs.Readings as annotation
 use Rattle.acsl_encode.specs.Readings.{Slot, whole, any_integer, pointer, home, absent, Common}
 use Rattle.acsl_encode.specs.Encode.{of_variable, region_of, terms_of}

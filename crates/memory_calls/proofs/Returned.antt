@@ -7,14 +7,14 @@ use Rattle.wp_base.specs.declared.kinds.Kind.TheVariants as kind
 use Rattle.wp_base.specs.Blocks.{count}
 use Rattle.qed_terms.specs.Meaning as sense
 use Rattle.qed_terms.specs.Tree.{num}
-use Rattle.acsl_truth.specs.States.{Value}
+use Rattle.c_runs.specs.TruthStates.{Value}
 use Rattle.c_runs.specs.Program.{Contract, Facts, Program}
 use Rattle.c_runs.specs.States.{Here}
 use Rattle.c_runs.specs.Calls.{nought}
 use Rattle.c_runs.specs.Scopes.{is_content}
-use Rattle.core_runs.specs.Run.{CoreWorld}
-use Rattle.core_checks.specs.Tree.{Goal, temporary, nowhere, Steps}
-use Rattle.core_checks.specs.Run as exec
+use Rattle.c_runs.specs.CoreRun.{CoreWorld}
+use Rattle.c_runs.specs.Tree.{Goal, temporary, nowhere, Steps}
+use Rattle.c_runs.specs.CheckedRun as exec
 use Rattle.goal_segments.specs.Told.{goal_temp}
 use Rattle.goal_segments.specs.Segments.{IsResult, no_deeper}
 use Rattle.plain_runs.proofs.Scopes.{zero_of}

@@ -5,7 +5,7 @@ use Rattle.qed_terms.specs.Meaning as sense
 use Rattle.qed_terms.specs.Tree.{Tree}
 use Rattle.c_runs.specs.Program.{Facts}
 use Rattle.c_runs.specs.Claims.{Stop}
-use Rattle.core_runs.specs.Run.{CoreWorld, Ending, stopped}
+use Rattle.c_runs.specs.CoreRun.{CoreWorld, Ending, stopped}
 use Rattle.walk_steps.specs.Forms.{Place}
 use Rattle.memory_steps.specs.State.{State}
 use Rattle.memory_steps.specs.Step.{Step, places, count}

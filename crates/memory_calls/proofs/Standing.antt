@@ -11,11 +11,11 @@ use Rattle.typed_prog.specs.declared.operators.Variable as code
 use Rattle.typed_prog.specs.declared.operators.Variable.TheVariants as variables
 use Rattle.qed_terms.specs.Meaning as sense
 use Rattle.qed_terms.specs.Operators.{is_equal}
-use Rattle.acsl_truth.specs.States.{Value, number, pointer}
+use Rattle.c_runs.specs.TruthStates.{Value, number, pointer}
 use Rattle.c_runs.specs.Program.{Variable, Facts}
 use Rattle.c_runs.specs.States.{Local, plain, global_home}
 use Rattle.c_runs.specs.Scopes.{is_content}
-use Rattle.core_runs.specs.Run.{CoreWorld}
+use Rattle.c_runs.specs.CoreRun.{CoreWorld}
 use Rattle.goal_segments.specs.Told.{IsGood, IsFlag}
 use Rattle.goal_segments.specs.Segments.{SameBlocks}
 use Rattle.typed_memories.proofs.Tests.{on_test, not_both}

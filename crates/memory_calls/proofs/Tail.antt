@@ -6,7 +6,7 @@ use Rattle.wp_base.specs.Blocks.{is_cell}
 use Rattle.typed_prog.specs.declared.operators.Variable as code
 use Rattle.typed_prog.specs.declared.operators.Variable.TheVariants as variables
 use Rattle.acsl_trees.specs.Tree as acsl
-use Rattle.acsl_truth.specs.States as labelled
+use Rattle.c_runs.specs.TruthStates as labelled
 use Rattle.acsl_encode.specs.Meaning.{Stands}
 use Rattle.c_runs.specs.States.{Memory, seen_by_contract}
 use Rattle.c_runs.specs.Allowed.{SetAllows, MayChange}
@@ -51,15 +51,15 @@ use Rattle.memory_calls.proofs.Letting.{PlainSet, plain_set, plain_assumed, set_
 use Rattle.memory_calls.proofs.Returned.{Returned, returned_forth, returned_back}
 use Rattle.typed_prog.specs.Tree as t
 use Rattle.qed_terms.specs.Meaning as sense
-use Rattle.acsl_truth.specs.States.{Value}
+use Rattle.c_runs.specs.TruthStates.{Value}
 use Rattle.c_runs.specs.Program.{Variable, Contract, Function, Facts, Program}
 use Rattle.c_runs.specs.States.{World, Here}
-use Rattle.core_runs.specs.Run.{CoreWorld, Ending, in_world}
-use Rattle.rte_checks.specs.Checks.{Check}
-use Rattle.rte_checks.specs.Tests.{totals}
-use Rattle.core_checks.specs.Tree as core
-use Rattle.core_checks.specs.Tree.{Goal, Steps}
-use Rattle.core_checks.specs.Run as exec
+use Rattle.c_runs.specs.CoreRun.{CoreWorld, Ending, in_world}
+use Rattle.c_runs.specs.Checks.{Check}
+use Rattle.c_runs.specs.Tests.{totals}
+use Rattle.c_runs.specs.Tree as core
+use Rattle.c_runs.specs.Tree.{Goal, Steps}
+use Rattle.c_runs.specs.CheckedRun as exec
 use Rattle.goal_segments.specs.Segments.{BehindCall, no_deeper}
 use Rattle.value_terms.specs.Places.{all_met_among}
 use Rattle.memory_steps.specs.State.{State}

@@ -7,8 +7,8 @@ use Rattle.wp_base.specs.declared.kinds.CellKind.{CellKind}
 use Rattle.wp_base.specs.Blocks.{Table, count, is_cell, has_cell, block_cells}
 use Rattle.typed_prog.specs.declared.operators.Variable as code
 use Rattle.acsl_trees.specs.Tree as acsl
-use Rattle.acsl_truth.specs.States as labelled
-use Rattle.acsl_truth.specs.Allowed.{is_named}
+use Rattle.c_runs.specs.TruthStates as labelled
+use Rattle.c_runs.specs.TruthAllowed.{is_named}
 use Rattle.acsl_encode.specs.Readings as annotation
 use Rattle.acsl_encode.specs.Meaning.{Stands}
 use Rattle.qed_terms.specs.Meaning as sense
@@ -18,8 +18,8 @@ use Rattle.c_runs.specs.Claims.{regions_of, lets_cell}
 use Rattle.goal_segments.specs.Segments.{SameBlocks}
 use Rattle.typed_memories.specs.Cells.{lies_inside}
 use Rattle.typed_memories.proofs.Tests.{on_test}
-use Rattle.memory_changes.specs.Changes.{Sets, LacksSince}
-use Rattle.memory_changes.proofs.Tables.{test_lt, not_le_test}
+use Rattle.typed_memories.specs.Changes.{Sets, LacksSince}
+use Rattle.typed_memories.proofs.Tables.{test_lt, not_le_test}
 use Rattle.memory_steps.specs.State.{State, state}
 use Rattle.memory_words.specs.Leaves.{leaves_of}
 use Rattle.memory_words.specs.Shapes.{FileCells, Shape}

@@ -9,7 +9,7 @@ use Rattle.wp_base.specs.Blocks.{Table, count}
 use Rattle.c_kinds.specs.Models.{low, high}
 use Rattle.c_kinds.proofs.Converting.{test_le, le_test}
 use Rattle.qed_terms.specs.Meaning as sense
-use Rattle.acsl_truth.specs.States.{Value, number, pointer, addresses, region, number_of, block_of, offset_of}
+use Rattle.c_runs.specs.TruthStates.{Value, number, pointer, addresses, region, number_of, block_of, offset_of}
 use Rattle.c_runs.specs.Program.{Facts}
 use Rattle.c_runs.specs.States.{plain_globals}
 use Rattle.c_runs.specs.Scopes.{is_content}

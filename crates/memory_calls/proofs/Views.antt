@@ -16,9 +16,9 @@ use Rattle.acsl_trees.specs.declared.heads.Label.{Label}
 use Rattle.acsl_trees.specs.declared.heads.Label.TheVariants as label
 use Rattle.qed_terms.specs.Meaning as sense
 use Rattle.qed_terms.specs.Meaning.{Values, truth, value}
-use Rattle.acsl_truth.specs.States as labelled
-use Rattle.acsl_truth.specs.States.{Value, number, pointer, state_at}
-use Rattle.acsl_truth.specs.Truth.{value_at}
+use Rattle.c_runs.specs.TruthStates as labelled
+use Rattle.c_runs.specs.TruthStates.{Value, number, pointer, state_at}
+use Rattle.c_runs.specs.Truth.{value_at}
 use Rattle.acsl_encode.specs.Readings.{Common, absent}
 use Rattle.acsl_encode.specs.Meaning.{SlotStands, SeenStands, AtHome, Means, Stands}
 use Rattle.c_runs.specs.Program.{Variable, Function, Facts}
@@ -26,9 +26,9 @@ use Rattle.c_runs.specs.States.{Memory, plain, held_by, hidden, params_from, blo
 use Rattle.c_runs.specs.Operators.{truth_number}
 use Rattle.c_runs.specs.Scopes.{is_content}
 use Rattle.c_runs.specs.Claims.{at_entry, at_return, here_in}
-use Rattle.core_runs.specs.Run.{CoreWorld}
-use Rattle.rte_checks.specs.Tests.{totals}
-use Rattle.core_checks.specs.Tree.{Steps}
+use Rattle.c_runs.specs.CoreRun.{CoreWorld}
+use Rattle.c_runs.specs.Tests.{totals}
+use Rattle.c_runs.specs.Tree.{Steps}
 use Rattle.value_terms.specs.Readings.{Term, as_number, as_test, as_pointer, number_term}
 use Rattle.value_terms.specs.Typed.{AreTyped, operand_kind}
 use Rattle.value_terms.specs.Worlds as terms

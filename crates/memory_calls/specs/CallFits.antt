@@ -11,9 +11,9 @@ use Rattle.typed_prog.specs.declared.operators.Variable.TheVariants as variables
 use Rattle.qed_terms.specs.Meaning as sense
 use Rattle.c_runs.specs.Program.{Variable, Claim, Measure, Behavior, Contract, Function, Facts}
 use Rattle.c_runs.specs.Objects.{cell_of}
-use Rattle.rte_checks.specs.Checks.{Check, all_checks}
-use Rattle.core_checks.specs.Tree as core
-use Rattle.core_checks.specs.Tree.{Goal, nowhere, temporary, place, variable, Steps}
+use Rattle.c_runs.specs.Checks.{Check, all_checks}
+use Rattle.c_runs.specs.Tree as core
+use Rattle.c_runs.specs.Tree.{Goal, nowhere, temporary, place, variable, Steps}
 use Rattle.value_terms.specs.Typed.{operand_kind}
 use Rattle.program_steps.specs.Temporaries.{Temporaries, live}
 use Rattle.memory_words.specs.Shapes.{FileCells, Shape, kind_of, is_pointer_cell}

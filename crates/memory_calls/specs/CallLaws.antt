@@ -4,8 +4,8 @@ use Rattle.typed_prog.specs.Tree as t
 use Rattle.same_memories.specs.Alike.{Respects}
 use Rattle.qed_terms.specs.Meaning as sense
 use Rattle.c_runs.specs.Program.{Contract, Function, Program, Facts}
-use Rattle.rte_checks.specs.Checks.{Check}
-use Rattle.core_checks.specs.Tree.{Goal, Steps}
+use Rattle.c_runs.specs.Checks.{Check}
+use Rattle.c_runs.specs.Tree.{Goal, Steps}
 use Rattle.memory_steps.specs.State.{Base}
 use Rattle.memory_steps.specs.Step.{IsGood}
 use Rattle.program_steps.specs.Temporaries.{Temporaries}

@@ -9,7 +9,7 @@ use Rattle.typed_prog.specs.declared.operators.Variable.TheVariants as variables
 use Rattle.acsl_trees.specs.Tree as acsl
 use Rattle.c_runs.specs.Program as program
 use Rattle.c_runs.specs.Program.{Function, Facts}
-use Rattle.core_checks.specs.Tree.{Steps}
+use Rattle.c_runs.specs.Tree.{Steps}
 use Rattle.value_terms.specs.Readings.{Term, number_term, block_term, offset_term, term_at}
 use Rattle.value_terms.specs.Terms.{terms_of}
 use Rattle.acsl_encode.specs.Readings as annotation

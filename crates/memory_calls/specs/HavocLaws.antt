@@ -11,11 +11,11 @@ use Rattle.qed_terms.specs.Meaning as sense
 use Rattle.qed_terms.specs.Meaning.{truth}
 use Rattle.c_runs.specs.Program.{Variable, Behavior, Facts}
 use Rattle.c_runs.specs.States.{Memory, global_home}
-use Rattle.core_runs.specs.Run.{CoreWorld}
+use Rattle.c_runs.specs.CoreRun.{CoreWorld}
 use Rattle.goal_segments.specs.Told.{IsGood}
 use Rattle.goal_segments.specs.Segments.{SameBlocks, LocalGoesOn}
 use Rattle.typed_memories.specs.Cells.{lies_inside}
-use Rattle.memory_changes.specs.Changes.{Sets}
+use Rattle.typed_memories.specs.Changes.{Sets}
 use Rattle.memory_steps.specs.State.{State}
 use Rattle.memory_steps.specs.Run.{End, goes_on, Seg}
 use Rattle.program_steps.specs.Temporaries.{Temporaries}

@@ -9,13 +9,13 @@ use Rattle.acsl_trees.specs.Tree as acsl
 use Rattle.acsl_trees.specs.declared.heads.Content.{Content}
 use Rattle.acsl_trees.specs.declared.heads.Content.TheVariants as content
 use Rattle.acsl_trees.specs.declared.heads.Head.TheVariants as acsl_head
-use Rattle.acsl_truth.specs.States as labelled
+use Rattle.c_runs.specs.TruthStates as labelled
 use Rattle.acsl_encode.specs.Readings as annotation
 use Rattle.acsl_encode.specs.Meaning.{HasAddress, Stands}
 use Rattle.qed_terms.specs.Meaning as sense
 use Rattle.c_runs.specs.Program.{Claim, Measure, Behavior, Contract, Loop, Facts}
 use Rattle.c_runs.specs.Claims.{parts_of}
-use Rattle.core_checks.specs.Tree.{Steps}
+use Rattle.c_runs.specs.Tree.{Steps}
 use Rattle.plain_runs.specs.Kept.{some_temps}
 use Rattle.program_steps.specs.Temporaries.{no_temporaries, all_live}
 use Rattle.memory_steps.specs.State.{State}

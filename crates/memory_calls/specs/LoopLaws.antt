@@ -3,7 +3,7 @@ use Rattle.std.specs.Prelude.{List}
 use Rattle.qed_terms.specs.Meaning as sense
 use Rattle.same_memories.specs.Alike.{Respects}
 use Rattle.c_runs.specs.Program.{Contract, Loop, Facts, Program}
-use Rattle.core_checks.specs.Tree.{Steps}
+use Rattle.c_runs.specs.Tree.{Steps}
 use Rattle.memory_steps.specs.State.{Base}
 use Rattle.memory_steps.specs.Step.{Step, skip, IsGood}
 use Rattle.memory_words.specs.Shapes.{FileCells, Shape, sizes}

@@ -9,7 +9,7 @@ use Rattle.acsl_trees.specs.declared.heads.Head.TheVariants as head
 use Rattle.acsl_encode.specs.Readings as annotation
 use Rattle.qed_terms.specs.Tree.{Tree, false_tree}
 use Rattle.c_runs.specs.Program.{Behavior, Contract, Loop, Facts}
-use Rattle.core_checks.specs.Tree.{Steps}
+use Rattle.c_runs.specs.Tree.{Steps}
 use Rattle.plain_runs.specs.Kept.{some_sets}
 use Rattle.memory_words.specs.Shapes.{FileCells, Shape}
 use Rattle.memory_words.specs.Readings.{Texts, Standpoint, body_reading}

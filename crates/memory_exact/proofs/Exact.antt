@@ -9,7 +9,7 @@ use Rattle.c_runs.specs.States.{World}
 use Rattle.c_runs.specs.Claims.{Stop}
 use Rattle.c_runs.specs.Calls.{Eval, gives, stops}
 use Rattle.c_runs.specs.Entry.{Enters}
-use Rattle.core_checks.specs.Tree.{Steps}
+use Rattle.c_runs.specs.Tree.{Steps}
 use Rattle.goal_segments.specs.Segments.{FunctionSeg}
 use Rattle.walk_steps.specs.State.{In}
 use Rattle.walk_steps.specs.Forms.{Place}

@@ -3,7 +3,7 @@ use Rattle.std.specs.Prelude.{◌≡◌, ℕ, true, List}
 use Rattle.std.specs.List.{list_all}
 use Rattle.qed_terms.specs.Setting.{Setting, world_of}
 use Rattle.c_runs.specs.Program.{Function, Program}
-use Rattle.core_checks.specs.Tree.{Steps}
+use Rattle.c_runs.specs.Tree.{Steps}
 use Rattle.run_blocks.specs.Ends.{is_short}
 use Rattle.walk_steps.specs.Walk.{Goal}
 use Rattle.memory_steps.specs.State.{Base}

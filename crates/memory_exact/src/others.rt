@@ -2,8 +2,8 @@
 ghost use Rattle.std.specs.Prelude.{ℕ, Bool, List};
 ghost use Rattle.typed_prog.specs.Tree.{Values};
 ghost use Rattle.c_runs.specs.Program.{Loop};
-ghost use Rattle.rte_checks.specs.Checks.{Check};
-ghost use Rattle.core_checks.specs.Tree.{Goal, Steps};
+ghost use Rattle.c_runs.specs.Checks.{Check};
+ghost use Rattle.c_runs.specs.Tree.{Goal, Steps};
 ghost use Rattle.memory_words.specs.Points.{Point};
 
 /// What is asked of the loops and the calls of a function, so that their words do what they do.

@@ -10,11 +10,11 @@ use Rattle.typed_prog.specs.Tree as t
 use Rattle.c_runs.specs.Program.{Variable, Measure, Facts}
 use Rattle.c_runs.specs.Operators.{access}
 use Rattle.c_runs.specs.Objects.{is_plain_in, plain_root, cell_of, is_pointed}
-use Rattle.core_runs.specs.Core.{Target, nowhere, temporary, place, variable}
-use Rattle.core_checks.specs.Tree as core
-use Rattle.core_checks.specs.Adding as adding
-use Rattle.core_checks.specs.Adding.{goal_of}
-use Rattle.rte_checks.specs.Checks.{all_checks, index_checks, one_if}
+use Rattle.c_runs.specs.Core.{Target, nowhere, temporary, place, variable}
+use Rattle.c_runs.specs.Tree as core
+use Rattle.c_runs.specs.Adding as adding
+use Rattle.c_runs.specs.Adding.{goal_of}
+use Rattle.c_runs.specs.Checks.{all_checks, index_checks, one_if}
 use Rattle.value_terms.specs.Readings.{plain_global}
 use Rattle.value_terms.specs.Terms.{terms_of}
 use Rattle.value_terms.specs.Typed.{operand_kind, AreTyped}

@@ -8,10 +8,10 @@ use Rattle.acsl_trees.specs.Tree as acsl
 use Rattle.qed_terms.specs.Meaning as sense
 use Rattle.c_runs.specs.Program.{Measure, Contract, Loop, Function, Facts}
 use Rattle.c_runs.specs.Claims.{parts_of}
-use Rattle.core_runs.specs.Core.{Core, set, store, start, call, branch, repeat, around, exit, give, claim, scope, Cores, end, then_}
-use Rattle.core_checks.specs.Tree as core
-use Rattle.core_checks.specs.Tree.{Steps}
-use Rattle.core_checks.specs.Adding.{goal_of, step_of, steps_of, function_of}
+use Rattle.c_runs.specs.Core.{Core, set, store, start, call, branch, repeat, around, exit, give, claim, scope, Cores, end, then_}
+use Rattle.c_runs.specs.Tree as core
+use Rattle.c_runs.specs.Tree.{Steps}
+use Rattle.c_runs.specs.Adding.{goal_of, step_of, steps_of, function_of}
 use Rattle.goal_segments.specs.Told.{with_names, goal_temp}
 use Rattle.value_terms.specs.Typed.{kind_given}
 use Rattle.program_steps.specs.Temporaries.{Temporaries, no_temporaries, uses, some_use, goal_uses, live, all_live}

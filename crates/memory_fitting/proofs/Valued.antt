@@ -9,8 +9,8 @@ use Rattle.typed_prog.specs.Tree as t
 use Rattle.c_runs.specs.Program.{Facts}
 use Rattle.c_runs.specs.Operators.{access}
 use Rattle.c_runs.specs.Objects.{plain_root, cell_of, is_pointed}
-use Rattle.rte_checks.specs.Checks.{all_checks, index_checks, one_if}
-use Rattle.core_checks.specs.Adding as adding
+use Rattle.c_runs.specs.Checks.{all_checks, index_checks, one_if}
+use Rattle.c_runs.specs.Adding as adding
 use Rattle.value_terms.specs.Readings.{Term, plain_global}
 use Rattle.value_terms.specs.Terms.{terms_of}
 use Rattle.value_terms.specs.Typed.{AreTyped}

@@ -5,9 +5,9 @@ use Rattle.wp_base.specs.declared.kinds.CellKind.{CellKind}
 use Rattle.wp_base.specs.declared.kinds.CellKind.TheVariants as cell
 use Rattle.qed_terms.specs.Meaning as sense
 use Rattle.c_runs.specs.Program.{Variable, Claim, Behavior, Contract, Function, Facts, Program}
-use Rattle.core_runs.specs.Core.{Cores}
-use Rattle.core_checks.specs.Tree.{Steps}
-use Rattle.core_checks.specs.Adding.{steps_of, function_of, add_checks}
+use Rattle.c_runs.specs.Core.{Cores}
+use Rattle.c_runs.specs.Tree.{Steps}
+use Rattle.c_runs.specs.Adding.{steps_of, function_of, add_checks}
 use Rattle.program_steps.specs.Temporaries.{no_temporaries}
 use Rattle.typed_normal.specs.Typed.{FunctionIsTyped}
 use Rattle.typed_normal.specs.Order.{SetsFirst}

@@ -7,8 +7,8 @@ use Rattle.typed_prog.specs.declared.operators.Variable.TheVariants as variables
 use Rattle.typed_prog.specs.Tree as t
 use Rattle.qed_terms.specs.Meaning as sense
 use Rattle.c_runs.specs.Program.{Contract, Loop, Function, Facts}
-use Rattle.core_checks.specs.Tree as core
-use Rattle.core_checks.specs.Tree.{Goal, Steps}
+use Rattle.c_runs.specs.Tree as core
+use Rattle.c_runs.specs.Tree.{Goal, Steps}
 use Rattle.program_steps.specs.Temporaries.{Temporaries, no_temporaries, all_live}
 use Rattle.memory_words.specs.Shapes.{FileCells, Shape, is_pointer_cell}
 use Rattle.memory_words.specs.Readings.{Texts, body_reading}

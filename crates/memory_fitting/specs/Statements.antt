@@ -4,9 +4,9 @@ use Rattle.std.specs.Prelude.{◌≡◌, ℕ, Bool, Option, Some, option_map}
 use Rattle.wp_base.specs.declared.kinds.CellKind.{CellKind}
 use Rattle.qed_terms.specs.Meaning as sense
 use Rattle.c_runs.specs.Program.{Contract, Function, Facts}
-use Rattle.core_runs.specs.Core.{Cores}
-use Rattle.core_checks.specs.Tree.{Steps}
-use Rattle.core_checks.specs.Adding.{steps_of, function_of}
+use Rattle.c_runs.specs.Core.{Cores}
+use Rattle.c_runs.specs.Tree.{Steps}
+use Rattle.c_runs.specs.Adding.{steps_of, function_of}
 use Rattle.program_steps.specs.Temporaries.{Temporaries}
 use Rattle.typed_normal.specs.Typed.{CoresAreTyped}
 use Rattle.typed_normal.specs.Order.{KeepOrder}

@@ -9,7 +9,7 @@ use Rattle.typed_prog.specs.Tree as t
 use Rattle.c_runs.specs.Program.{Facts}
 use Rattle.value_terms.specs.Readings.{Term}
 use Rattle.value_terms.specs.Typed.{AreTyped}
-use Rattle.core_checks.specs.Adding.{place_checks}
+use Rattle.c_runs.specs.Adding.{place_checks}
 use Rattle.program_steps.specs.Temporaries.{Temporaries, uses, some_use}
 use Rattle.typed_runs.specs.Fitting as typed
 use Rattle.typed_normal.specs.Typed.{all_temporaries, core_scope, IsOfKind, IsStored}

@@ -12,19 +12,19 @@ use Rattle.c_kinds.specs.Models.{high, difference_kind}
 use Rattle.typed_prog.specs.declared.operators.Variable.TheVariants as variables
 use Rattle.qed_terms.specs.Meaning as sense
 use Rattle.qed_terms.specs.Operators.{is_equal}
-use Rattle.acsl_truth.specs.States.{Value}
+use Rattle.c_runs.specs.TruthStates.{Value}
 use Rattle.c_runs.specs.Program.{Variable, Function, Facts}
 use Rattle.c_runs.specs.States.{Local, plain, home, unset, World, no_locals, at, with_local, with_memory, stored_in}
 use Rattle.c_runs.specs.Scopes.{arrived, is_content}
 use Rattle.c_runs.specs.Scopes as machine
-use Rattle.core_runs.specs.Run.{CoreWorld, begun}
-use Rattle.core_checks.specs.Tree.{Steps}
+use Rattle.c_runs.specs.CoreRun.{CoreWorld, begun}
+use Rattle.c_runs.specs.Tree.{Steps}
 use Rattle.run_blocks.specs.Ends.{is_short}
 use Rattle.run_blocks.proofs.Standing.{still, still_then}
 use Rattle.typed_memories.proofs.Tests.{on_test, chosen, unchosen, neither, or_left}
-use Rattle.memory_changes.specs.Changes.{StillThere, SameCells}
-use Rattle.memory_changes.proofs.Ending.{standing_blocks_stay}
-use Rattle.memory_changes.proofs.Alone.{newer_blocks_lack_kinds}
+use Rattle.typed_memories.specs.Changes.{StillThere, SameCells}
+use Rattle.typed_memories.proofs.Ending.{standing_blocks_stay}
+use Rattle.typed_memories.proofs.Alone.{newer_blocks_lack_kinds}
 use Rattle.program_steps.specs.Temporaries.{Temporaries, no_temporaries, all_live}
 use Rattle.memory_steps.specs.State.{State}
 use Rattle.memory_steps.specs.Step as step

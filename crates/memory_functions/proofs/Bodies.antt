@@ -4,7 +4,7 @@ use Rattle.std.specs.List.{list_all}
 use Rattle.std.proofs.lemmas.Bool.{false≢true}
 use Rattle.std.proofs.lemmas.Option.{none-some}
 use Rattle.wp_base.specs.declared.kinds.CellKind.{CellKind}
-use Rattle.acsl_truth.specs.States.{Value}
+use Rattle.c_runs.specs.TruthStates.{Value}
 use Rattle.qed_terms.specs.Meaning as sense
 use Rattle.c_runs.specs.Program.{Function, Facts, Program}
 use Rattle.c_runs.specs.States.{World, Here}
@@ -12,12 +12,12 @@ use Rattle.c_runs.specs.Operators.{noreturn}
 use Rattle.c_runs.specs.Claims.{Stop, undefined, here_in}
 use Rattle.c_runs.specs.Scopes.{arrived}
 use Rattle.c_runs.specs.Calls.{Eval, gives, stops, nought}
-use Rattle.core_runs.specs.Run as run
-use Rattle.core_runs.specs.Run.{CoreWorld, Ending, begun}
-use Rattle.core_checks.specs.Tree.{Steps}
+use Rattle.c_runs.specs.CoreRun as run
+use Rattle.c_runs.specs.CoreRun.{CoreWorld, Ending, begun}
+use Rattle.c_runs.specs.Tree.{Steps}
 use Rattle.run_blocks.specs.Ends.{is_short}
-use Rattle.segments.specs.Segments as segment
-use Rattle.segments.specs.Segments.{BodyEnds, behind_call}
+use Rattle.goal_segments.specs.RunSegments as segment
+use Rattle.goal_segments.specs.RunSegments.{BodyEnds, behind_call}
 use Rattle.goal_segments.specs.Segments.{AllSeg, IsResult}
 use Rattle.walk_steps.specs.Forms.{Place}
 use Rattle.program_steps.specs.Stops.{undefined_place}

@@ -5,7 +5,7 @@ use Rattle.typed_prog.specs.Tree as t
 use Rattle.qed_terms.specs.Meaning as sense
 use Rattle.c_runs.specs.Program.{Contract, Function, Facts}
 use Rattle.c_runs.specs.Objects.{plain_root}
-use Rattle.core_checks.specs.Tree.{Goal, nowhere, temporary, place, variable, Steps}
+use Rattle.c_runs.specs.Tree.{Goal, nowhere, temporary, place, variable, Steps}
 use Rattle.value_terms.specs.Readings.{Term, plain_global}
 use Rattle.value_terms.specs.Words.{words}
 use Rattle.memory_steps.specs.Forms.{Form, Check}

@@ -4,8 +4,8 @@ use Rattle.std.specs.List.{list_all}
 use Rattle.std.proofs.lemmas.Bool.{false≢true, and_parts}
 use Rattle.wp_base.specs.declared.kinds.CellKind.{CellKind}
 use Rattle.acsl_trees.specs.Tree as acsl
-use Rattle.acsl_truth.specs.States as labelled
-use Rattle.acsl_truth.specs.States.{Value, span_of, is_negative}
+use Rattle.c_runs.specs.TruthStates as labelled
+use Rattle.c_runs.specs.TruthStates.{Value, span_of, is_negative}
 use Rattle.acsl_encode.specs.Readings as annotation
 use Rattle.acsl_encode.specs.Readings.{Terms, region, nothing}
 use Rattle.acsl_encode.specs.Encode as encode

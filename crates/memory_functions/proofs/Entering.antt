@@ -8,8 +8,8 @@ use Rattle.wp_base.specs.declared.kinds.CellKind.TheVariants as cell
 use Rattle.wp_base.specs.Blocks.{Table, count, len, has_layout}
 use Rattle.c_kinds.specs.Models.{high, difference_kind}
 use Rattle.typed_prog.specs.declared.operators.Variable.TheVariants as variables
-use Rattle.acsl_truth.specs.Told.{is_zero}
-use Rattle.acsl_truth.specs.States.{Value, number as number_value, nothing_of}
+use Rattle.c_runs.specs.TruthTold.{is_zero}
+use Rattle.c_runs.specs.TruthStates.{Value, number as number_value, nothing_of}
 use Rattle.qed_terms.specs.Memory.{load}
 use Rattle.qed_terms.specs.Meaning as sense
 use Rattle.qed_terms.specs.Tree.{Tree}
@@ -20,8 +20,8 @@ use Rattle.c_runs.specs.Claims as broken
 use Rattle.c_runs.specs.Claims.{at_entry, is_required, unless_true, parts_of}
 use Rattle.c_runs.specs.Scopes.{is_content}
 use Rattle.c_runs.specs.Entry.{Enters, is_home, is_placed, is_value, leads_well}
-use Rattle.core_runs.specs.Run.{begun}
-use Rattle.core_checks.specs.Tree.{Steps}
+use Rattle.c_runs.specs.CoreRun.{begun}
+use Rattle.c_runs.specs.Tree.{Steps}
 use Rattle.goal_segments.specs.Told.{IsGood}
 use Rattle.typed_memories.specs.Cells.{Cells, Typed, numbers_by, pointers_by, FormedAt, HasForm, AllTyped, AllFormed, AllRead, Reads, decoded}
 use Rattle.typed_memories.specs.Laws.{DecodedIsState, DecodedIsWellFormed}

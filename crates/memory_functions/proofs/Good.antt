@@ -17,7 +17,7 @@ use Rattle.c_runs.specs.Program.{Claim, Behavior, Together, Contract, Function, 
 use Rattle.c_runs.specs.Objects.{is_plain_in, plain_root, cell_of}
 use Rattle.c_runs.specs.Claims as broken
 use Rattle.c_runs.specs.Claims.{in_order}
-use Rattle.core_checks.specs.Tree as core
+use Rattle.c_runs.specs.Tree as core
 use Rattle.value_terms.specs.Readings.{Term, number_term, block_term, offset_term, as_pointer, plain_global}
 use Rattle.value_terms.specs.Words.{Item, asked, known, word_of, words}
 use Rattle.value_terms.specs.Places.{way_items}

@@ -12,9 +12,9 @@ use Rattle.acsl_trees.specs.Tree as acsl
 use Rattle.acsl_trees.specs.declared.heads.Content.{Content}
 use Rattle.acsl_trees.specs.declared.heads.Content.TheVariants as content
 use Rattle.acsl_trees.specs.declared.heads.Head.TheVariants as head
-use Rattle.acsl_truth.specs.States as labelled
-use Rattle.acsl_truth.specs.States.{Value, span_of, covers, is_negative}
-use Rattle.acsl_truth.specs.Allowed.{lies_in, is_named}
+use Rattle.c_runs.specs.TruthStates as labelled
+use Rattle.c_runs.specs.TruthStates.{Value, span_of, covers, is_negative}
+use Rattle.c_runs.specs.TruthAllowed.{lies_in, is_named}
 use Rattle.acsl_encode.specs.Readings as annotation
 use Rattle.acsl_encode.specs.Readings.{home, absent, region, nothing}
 use Rattle.acsl_encode.specs.Encode as encode

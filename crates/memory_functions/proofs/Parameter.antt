@@ -13,19 +13,19 @@ use Rattle.c_kinds.specs.Models.{high, difference_kind}
 use Rattle.typed_prog.specs.declared.operators.Variable.TheVariants as variables
 use Rattle.qed_terms.specs.Meaning as sense
 use Rattle.qed_terms.specs.Tree.{num}
-use Rattle.acsl_truth.specs.States.{Value}
+use Rattle.c_runs.specs.TruthStates.{Value}
 use Rattle.c_runs.specs.Program.{Variable, Facts}
 use Rattle.c_runs.specs.States.{Local, plain, World, Memory, home, unset, with_local, with_memory, stored_in}
 use Rattle.c_runs.specs.Scopes.{with_block, param_made, block_made, is_content}
-use Rattle.core_runs.specs.Run.{CoreWorld, in_world}
+use Rattle.c_runs.specs.CoreRun.{CoreWorld, in_world}
 use Rattle.goal_segments.specs.Told.{IsGood}
 use Rattle.goal_segments.specs.Segments.{Opened, all_opened, with_cells}
 use Rattle.typed_memories.proofs.Tests.{on_test, chosen, unchosen, with_cell_is, with_cell_here, with_cell_apart, here as here_is, same_address, number_same, is_here}
-use Rattle.memory_changes.specs.Changes.{Makes, StillThere}
-use Rattle.memory_changes.proofs.Tables.{new_block, not_count}
-use Rattle.memory_changes.proofs.Making.{hidden_before}
-use Rattle.memory_changes.proofs.Filling.{made_blocks_hold_contents}
-use Rattle.memory_changes.proofs.Arguments.{parameters_hold_arguments}
+use Rattle.typed_memories.specs.Changes.{Makes, StillThere}
+use Rattle.typed_memories.proofs.Tables.{new_block, not_count}
+use Rattle.typed_memories.proofs.Making.{hidden_before}
+use Rattle.typed_memories.proofs.Filling.{made_blocks_hold_contents}
+use Rattle.typed_memories.proofs.Arguments.{parameters_hold_arguments}
 use Rattle.run_blocks.specs.Ends.{is_short}
 use Rattle.run_blocks.proofs.Standing.{block_still, still_same, still_then}
 use Rattle.run_blocks.proofs.Good.{good_shaped, openings_are_good}

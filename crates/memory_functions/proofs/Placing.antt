@@ -5,7 +5,7 @@ use Rattle.std.proofs.lemmas.Bool.{false≢true, and_parts}
 use Rattle.wp_base.specs.declared.kinds.CellKind.{CellKind}
 use Rattle.wp_base.specs.Blocks.{Table, count}
 use Rattle.typed_prog.specs.declared.operators.Variable.TheVariants as variables
-use Rattle.acsl_truth.specs.States as labelled
+use Rattle.c_runs.specs.TruthStates as labelled
 use Rattle.qed_terms.specs.Meaning as sense
 use Rattle.qed_terms.specs.Meaning.{value}
 use Rattle.c_runs.specs.Told.{Value}
@@ -14,10 +14,10 @@ use Rattle.c_runs.specs.States.{World, Here, Granted, seen_by_contract}
 use Rattle.c_runs.specs.States as states
 use Rattle.c_runs.specs.Claims.{at_entry, here_in, granted_in, parts_of, lets_cell, lets_local}
 use Rattle.c_runs.specs.Scopes.{arrived}
-use Rattle.core_checks.specs.Tree.{Steps}
+use Rattle.c_runs.specs.Tree.{Steps}
 use Rattle.typed_memories.proofs.Tests.{on_test}
-use Rattle.memory_changes.specs.Changes.{LacksSince}
-use Rattle.memory_changes.proofs.Alone.{newer_blocks_lack_kinds}
+use Rattle.typed_memories.specs.Changes.{LacksSince}
+use Rattle.typed_memories.proofs.Alone.{newer_blocks_lack_kinds}
 use Rattle.memory_steps.specs.State.{State}
 use Rattle.memory_words.proofs.Leaves.{leaves_are_held}
 use Rattle.memory_words.specs.Leaves.{leaves_of}

@@ -14,7 +14,7 @@ use Rattle.same_memories.specs.Alike.{Respects}
 use Rattle.c_runs.specs.Program as program
 use Rattle.c_runs.specs.Program.{Contract, Function, Facts}
 use Rattle.c_runs.specs.Objects.{is_plain_in, plain_root, cell_of}
-use Rattle.core_checks.specs.Tree.{Goal, nowhere, temporary, place, variable, Steps}
+use Rattle.c_runs.specs.Tree.{Goal, nowhere, temporary, place, variable, Steps}
 use Rattle.value_terms.specs.Readings.{Term, plain_global}
 use Rattle.typed_memories.proofs.Tests.{on_test, chosen, unchosen}
 use Rattle.memory_steps.specs.State.{Base}

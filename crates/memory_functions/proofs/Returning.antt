@@ -8,18 +8,18 @@ use Rattle.wp_base.specs.declared.kinds.CellKind.TheVariants as cell
 use Rattle.wp_base.specs.Blocks.{Table, count, grow}
 use Rattle.typed_prog.specs.declared.operators.Variable.TheVariants as variables
 use Rattle.qed_terms.specs.Meaning as sense
-use Rattle.acsl_truth.specs.States.{Value, number, pointer, addresses, region}
+use Rattle.c_runs.specs.TruthStates.{Value, number, pointer, addresses, region}
 use Rattle.c_runs.specs.Program.{Variable, Function, Facts}
 use Rattle.c_runs.specs.States.{World, Memory, with_memory, plain_globals}
 use Rattle.c_runs.specs.Entry.{is_value}
 use Rattle.c_runs.specs.Scopes.{arrived, ended_since, is_content}
-use Rattle.core_runs.specs.Run.{CoreWorld, in_world}
-use Rattle.core_checks.specs.Tree.{Steps}
-use Rattle.segments.specs.Segments.{behind_call}
+use Rattle.c_runs.specs.CoreRun.{CoreWorld, in_world}
+use Rattle.c_runs.specs.Tree.{Steps}
+use Rattle.goal_segments.specs.RunSegments.{behind_call}
 use Rattle.goal_segments.specs.Segments.{SameBlocks, IsResult}
 use Rattle.run_blocks.proofs.Good.{good_shaped}
 use Rattle.typed_memories.proofs.Tests.{on_test, both_so}
-use Rattle.memory_changes.proofs.Tables.{below_more, grown_count, count_grows, test_not_le}
+use Rattle.typed_memories.proofs.Tables.{below_more, grown_count, count_grows, test_not_le}
 use Rattle.c_kinds.proofs.Converting.{test_le, le_test}
 use Rattle.program_steps.specs.Temporaries.{Temporaries}
 use Rattle.memory_steps.specs.State.{State}

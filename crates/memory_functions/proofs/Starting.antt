@@ -17,7 +17,7 @@ use Rattle.c_kinds.specs.declared.models.Machdep.TheVariants as model
 use Rattle.c_kinds.specs.Models.{long_bits, high, difference_kind}
 use Rattle.c_kinds.proofs.Converting.{le_test}
 use Rattle.typed_prog.specs.declared.operators.Variable.TheVariants as variables
-use Rattle.acsl_truth.specs.States.{Value, number as number_value, offset_of}
+use Rattle.c_runs.specs.TruthStates.{Value, number as number_value, offset_of}
 use Rattle.qed_terms.specs.Memory.{load}
 use Rattle.qed_terms.specs.Meaning as sense
 use Rattle.qed_terms.specs.Setting.{Setting, world_of, cells_at_most}
@@ -29,8 +29,8 @@ use Rattle.c_runs.specs.Claims as broken
 use Rattle.c_runs.specs.Claims.{at_entry, is_required, unless_true, parts_of}
 use Rattle.c_runs.specs.Scopes.{is_content}
 use Rattle.c_runs.specs.Entry.{Enters}
-use Rattle.core_runs.specs.Run.{begun}
-use Rattle.core_checks.specs.Tree.{Steps}
+use Rattle.c_runs.specs.CoreRun.{begun}
+use Rattle.c_runs.specs.Tree.{Steps}
 use Rattle.goal_segments.specs.Told.{IsGood}
 use Rattle.typed_memories.specs.Cells.{Cells, numbers_by, pointers_by, typed, encoded, read_in, FormedAt}
 use Rattle.typed_memories.proofs.Tests.{on_test, chosen, unchosen}

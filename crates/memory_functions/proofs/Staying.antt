@@ -13,7 +13,7 @@ use Rattle.qed_terms.specs.Tree.{Tree, num}
 use Rattle.c_runs.specs.Program as program
 use Rattle.c_runs.specs.Program.{Contract, Function, Facts}
 use Rattle.c_runs.specs.Objects.{plain_root, cell_of}
-use Rattle.core_checks.specs.Tree as core
+use Rattle.c_runs.specs.Tree as core
 use Rattle.value_terms.specs.Readings.{Term, as_pointer, plain_global}
 use Rattle.value_terms.specs.Words.{Item, asked, known, word_of, words}
 use Rattle.value_terms.specs.Places.{way_items}

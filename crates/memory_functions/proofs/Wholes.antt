@@ -6,18 +6,18 @@ use Rattle.std.proofs.lemmas.Option.{none-some, same_Some}
 use Rattle.wp_base.specs.declared.kinds.CellKind.{CellKind}
 use Rattle.wp_base.specs.declared.kinds.CellKind.TheVariants as cell
 use Rattle.wp_base.specs.Blocks.{count}
-use Rattle.acsl_truth.specs.States as labelled
-use Rattle.acsl_truth.specs.States.{Value}
+use Rattle.c_runs.specs.TruthStates as labelled
+use Rattle.c_runs.specs.TruthStates.{Value}
 use Rattle.qed_terms.specs.Meaning as sense
 use Rattle.c_runs.specs.Program.{Variable, Function, Facts, Program}
 use Rattle.c_runs.specs.States.{World, Here, seen_by_contract}
 use Rattle.c_runs.specs.Claims.{Stop, in_order, at_entry, at_return, entered_well, ensured, here_in}
 use Rattle.c_runs.specs.Scopes.{arrived}
 use Rattle.c_runs.specs.Calls.{Eval, gives, stops}
-use Rattle.core_runs.specs.Run.{CoreWorld, Ending, begun}
-use Rattle.core_checks.specs.Tree.{Steps}
+use Rattle.c_runs.specs.CoreRun.{CoreWorld, Ending, begun}
+use Rattle.c_runs.specs.Tree.{Steps}
 use Rattle.run_blocks.specs.Ends.{is_short}
-use Rattle.segments.specs.Segments.{BodyEnds, behind_call}
+use Rattle.goal_segments.specs.RunSegments.{BodyEnds, behind_call}
 use Rattle.goal_segments.specs.Segments.{AllSeg, FunctionSeg, not_entered, goes_wrong, breaks_promise, returns_well, IsResult}
 use Rattle.typed_memories.proofs.Tests.{on_test, neither}
 use Rattle.walk_steps.specs.Forms.{Place}

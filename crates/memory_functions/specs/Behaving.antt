@@ -19,8 +19,8 @@ use Rattle.qed_terms.specs.Tree.{Tree, num, var, equal, at_most, less, not_of, a
 use Rattle.c_runs.specs.Program.{Function, Program}
 use Rattle.c_runs.specs.Operators.{overflow}
 use Rattle.c_runs.specs.Claims as broken
-use Rattle.core_checks.specs.Tree.{Steps}
-use Rattle.core_checks.specs.Tree as core
+use Rattle.c_runs.specs.Tree.{Steps}
+use Rattle.c_runs.specs.Tree as core
 use Rattle.program_steps.specs.Stops.{undefined_place, broken_place, kept_place}
 use Rattle.walk_steps.specs.Walk.{Goal}
 use Rattle.memory_steps.specs.World.{memory_var, table_var, count_of, grow_of}

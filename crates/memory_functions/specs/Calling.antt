@@ -17,8 +17,8 @@ use Rattle.qed_terms.specs.declared.head.Shape.TheVariants as shape
 use Rattle.qed_terms.specs.Tree.{Tree, num, var, equal, at_most, less, and_of, or_of}
 use Rattle.c_runs.specs.Program.{Function, Program}
 use Rattle.c_runs.specs.Claims as broken
-use Rattle.core_checks.specs.Tree.{Steps}
-use Rattle.core_checks.specs.Tree as core
+use Rattle.c_runs.specs.Tree.{Steps}
+use Rattle.c_runs.specs.Tree as core
 use Rattle.program_steps.specs.Stops.{broken_place}
 use Rattle.walk_steps.specs.Walk.{Goal}
 use Rattle.memory_steps.specs.World.{memory_var, table_var, count_of, grow_of}

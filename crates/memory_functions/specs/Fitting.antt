@@ -2,7 +2,7 @@
 use Rattle.std.specs.Prelude.{◌≡◌, ◌≤◌, ◌<◌, ℕ, true, false, [], length}
 use Rattle.qed_terms.specs.Meaning as sense
 use Rattle.c_runs.specs.Program.{Claim, Behavior, Function, Facts}
-use Rattle.core_checks.specs.Tree.{Steps}
+use Rattle.c_runs.specs.Tree.{Steps}
 use Rattle.program_steps.specs.Temporaries.{no_temporaries, all_live}
 use Rattle.memory_words.specs.Shapes.{FileCells, Shape, is_pointer_cell}
 use Rattle.memory_words.specs.Readings.{Texts, entry_reading}

@@ -10,10 +10,10 @@ use Rattle.c_runs.specs.Program.{Variable, Claim, Behavior, Function, Facts}
 use Rattle.c_runs.specs.States.{Memory, World}
 use Rattle.c_runs.specs.Calls.{Eval, gives, stops}
 use Rattle.c_runs.specs.Scopes.{arrived}
-use Rattle.core_runs.specs.Run.{CoreWorld, begun}
-use Rattle.core_checks.specs.Tree.{Steps}
+use Rattle.c_runs.specs.CoreRun.{CoreWorld, begun}
+use Rattle.c_runs.specs.Tree.{Steps}
 use Rattle.goal_segments.specs.Segments.{IsResult}
-use Rattle.memory_changes.specs.Changes.{StillThere, SameCells}
+use Rattle.typed_memories.specs.Changes.{StillThere, SameCells}
 use Rattle.walk_steps.specs.Forms.{Place as CheckPlace}
 use Rattle.program_steps.specs.Temporaries.{no_temporaries, all_live}
 use Rattle.memory_steps.specs.State.{State, HasSort, nothing}

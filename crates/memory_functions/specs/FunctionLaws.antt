@@ -5,7 +5,7 @@ use Rattle.qed_terms.specs.Meaning as sense
 use Rattle.c_runs.specs.Told.{Value}
 use Rattle.c_runs.specs.Program.{Function, Facts, Program}
 use Rattle.c_runs.specs.States.{World}
-use Rattle.core_checks.specs.Tree.{Steps}
+use Rattle.c_runs.specs.Tree.{Steps}
 use Rattle.run_blocks.specs.Ends.{is_short}
 use Rattle.goal_segments.specs.Segments.{FunctionSeg}
 use Rattle.memory_steps.specs.State.{State}

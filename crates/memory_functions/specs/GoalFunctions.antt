@@ -11,7 +11,7 @@ use Rattle.c_runs.specs.Program.{Variable, Claim, Behavior, Together, Function, 
 use Rattle.c_runs.specs.Operators.{noreturn}
 use Rattle.c_runs.specs.Claims as broken
 use Rattle.c_runs.specs.Claims.{in_order}
-use Rattle.core_checks.specs.Tree.{Steps}
+use Rattle.c_runs.specs.Tree.{Steps}
 use Rattle.program_steps.specs.Stops.{undefined_place, broken_place}
 use Rattle.program_steps.specs.Temporaries.{no_temporaries}
 use Rattle.value_terms.specs.Readings.{as_pointer}

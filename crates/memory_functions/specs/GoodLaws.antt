@@ -6,8 +6,8 @@ use Rattle.same_memories.specs.Alike.{Respects}
 use Rattle.c_runs.specs.Program.{Variable, Contract, Function, Loop, Facts}
 use Rattle.c_runs.specs.Objects.{plain_root, cell_of}
 use Rattle.value_terms.specs.Readings.{plain_global}
-use Rattle.rte_checks.specs.Checks.{Check}
-use Rattle.core_checks.specs.Tree.{Goal, nowhere, temporary, place, variable, Steps}
+use Rattle.c_runs.specs.Checks.{Check}
+use Rattle.c_runs.specs.Tree.{Goal, nowhere, temporary, place, variable, Steps}
 use Rattle.memory_steps.specs.State.{Base}
 use Rattle.memory_steps.specs.Step.{Step, IsGood}
 use Rattle.memory_steps.specs.Bracketed.{IsBracketed}

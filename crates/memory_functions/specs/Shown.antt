@@ -34,7 +34,7 @@ use Rattle.qed_terms.specs.Meaning as sense
 use Rattle.qed_terms.specs.Tree.{Tree, node, one, two, three, trees_of}
 use Rattle.c_runs.specs.Program as program
 use Rattle.c_runs.specs.Program.{Claim, Measure, Behavior, Together, Contract, Loop, Function, Program}
-use Rattle.core_checks.specs.Tree as core
+use Rattle.c_runs.specs.Tree as core
 use Rattle.walk_steps.specs.Forms.{Place as CheckPlace}
 use Rattle.walk_steps.specs.Walk.{Goal}
 use Rattle.memory_steps.specs.Laws.{goals}

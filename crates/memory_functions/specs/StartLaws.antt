@@ -5,7 +5,7 @@ use Rattle.c_runs.specs.Told.{Value}
 use Rattle.c_runs.specs.Program.{Function, Program}
 use Rattle.c_runs.specs.States.{World}
 use Rattle.c_runs.specs.Entry.{Enters}
-use Rattle.core_checks.specs.Tree.{Steps}
+use Rattle.c_runs.specs.Tree.{Steps}
 use Rattle.memory_steps.specs.State.{State}
 use Rattle.memory_steps.specs.Laws.{Starts}
 use Rattle.memory_words.specs.Shapes.{FileCells}

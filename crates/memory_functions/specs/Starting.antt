@@ -13,7 +13,7 @@ use Rattle.qed_terms.specs.declared.head.FormOp.TheVariants as form_op
 use Rattle.qed_terms.specs.Tree.{Tree, node, two, three, num, at_most, less}
 use Rattle.c_runs.specs.Program.{Variable, Claim, Behavior, Function, Facts}
 use Rattle.c_runs.specs.States.{global_home}
-use Rattle.core_checks.specs.Tree.{Steps}
+use Rattle.c_runs.specs.Tree.{Steps}
 use Rattle.memory_steps.specs.World.{count_of}
 use Rattle.memory_steps.specs.Laws.{Origin, own, fixed, Start}
 use Rattle.memory_words.specs.Places.{Place, value, offset, flag, numbers, blocks, offsets, places}

@@ -3,7 +3,7 @@ use Rattle.std.specs.Prelude.{ℕ, Bool, List, map}
 use Rattle.wp_base.specs.declared.kinds.CellKind.{CellKind}
 use Rattle.qed_terms.specs.Meaning as sense
 use Rattle.c_runs.specs.Program.{Function, Facts, Program}
-use Rattle.core_checks.specs.Tree.{Steps}
+use Rattle.c_runs.specs.Tree.{Steps}
 use Rattle.memory_steps.specs.State.{Base, base}
 use Rattle.memory_steps.specs.Step.{Step, skip}
 use Rattle.memory_steps.specs.Laws.{Start}

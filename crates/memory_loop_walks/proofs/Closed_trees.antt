@@ -4,7 +4,7 @@ use Rattle.std.specs.List.{list_all}
 use Rattle.acsl_trees.specs.Tree as acsl
 use Rattle.qed_terms.specs.Tree.{Tree}
 use Rattle.c_runs.specs.Program.{Claim, Behavior, Contract, Loop, Facts}
-use Rattle.core_checks.specs.Tree.{Steps}
+use Rattle.c_runs.specs.Tree.{Steps}
 use Rattle.memory_words.specs.Leaves.{is_closed}
 use Rattle.memory_words.specs.Shapes.{FileCells, Shape}
 use Rattle.memory_words.specs.Readings.{Texts, Standpoint, body_reading}

@@ -10,7 +10,7 @@ use Rattle.core_trees.specs.View.{view_loop}
 use Rattle.core_trees.specs.declared.claims.Loop.{Loop as CodeLoop}
 use Rattle.c_runs.specs.Program.{Contract, Loop}
 use Rattle.memory_words.specs.Points.{Force, of_function, of_loop, Point, Open, Out}
-use Rattle.core_checks.specs.Tree.{Steps}
+use Rattle.c_runs.specs.Tree.{Steps}
 use Rattle.memory_words.specs.Sets.{has_variable}
 use Rattle.memory_calls.specs.LoopSets.{InForce, by_own, in_force, variable_changes}
 use Rattle.memory_frames.specs.declared.frames.Frame.{Frame}

@@ -3,7 +3,7 @@ use Rattle.std.proofs.Common.{◌≡◌, ℕ, ◌+◌, Bool, true, false, List, 
 use Rattle.qed_terms.specs.Meaning as sense
 use Rattle.qed_terms.specs.Tree.{Tree}
 use Rattle.c_runs.specs.Program.{Contract, Loop, Facts}
-use Rattle.core_checks.specs.Tree.{Steps}
+use Rattle.c_runs.specs.Tree.{Steps}
 use Rattle.walk_steps.specs.Forms.{Place}
 use Rattle.walk_steps.specs.Walk.{Goal}
 use Rattle.memory_steps.specs.State.{Base}

@@ -7,7 +7,7 @@ use Rattle.qed_terms.specs.Meaning as sense
 use Rattle.qed_terms.specs.Tree.{Tree, num, at_most, less}
 use Rattle.c_runs.specs.Program.{Variable, Claim, Measure, Contract, Loop, Facts}
 use Rattle.c_runs.specs.Claims as broken
-use Rattle.core_checks.specs.Tree.{Steps}
+use Rattle.c_runs.specs.Tree.{Steps}
 use Rattle.walk_steps.specs.Forms.{Place}
 use Rattle.program_steps.specs.Stops.{broken_place, kept_place}
 use Rattle.memory_steps.specs.Forms.{Check}

@@ -4,7 +4,7 @@ ghost use Rattle.acsl_encode.specs.Readings.{Reading};
 ghost use Rattle.acsl_trees.specs.Tree as acsl;
 ghost use Rattle.c_runs.specs.Program as program;
 ghost use Rattle.changed_memories.specs.Changed.{FileChanges};
-ghost use Rattle.core_checks.specs.Tree.{Steps};
+ghost use Rattle.c_runs.specs.Tree.{Steps};
 ghost use Rattle.core_trees.specs.View.{view_claim, view_loop};
 ghost use Rattle.memory_frames.specs.Labelled.{Labelled};
 ghost use Rattle.memory_frames.specs.View.{cells_in, facts_in, shape_in, view_point};

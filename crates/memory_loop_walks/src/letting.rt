@@ -2,7 +2,7 @@
 ghost use Rattle.std.specs.Prelude.{◌≡◌, ◌<◌, ◌&&◌, ℕ, Bool, slice_get, IfOk};
 ghost use Rattle.c_runs.specs.Objects.{is_plain_in};
 ghost use Rattle.c_runs.specs.Program.{Loop as PlainLoop};
-ghost use Rattle.core_checks.specs.Tree.{Steps};
+ghost use Rattle.c_runs.specs.Tree.{Steps};
 ghost use Rattle.core_trees.specs.View.{view_loop, view_variables};
 ghost use Rattle.memory_frames.specs.View.{facts_in, shape_in};
 ghost use Rattle.memory_loop_walks.specs.Forces.{view_in_force};

@@ -2,7 +2,7 @@
 ghost use Rattle.std.specs.Prelude.{◌≡◌, List, length, map, true, IfOk, OnOk};
 ghost use Rattle.changed_memories.specs.Changed.{FileChanges, IsSorted};
 ghost use Rattle.checked_trees.specs.View.{view_steps};
-ghost use Rattle.core_checks.specs.Tree.{Steps};
+ghost use Rattle.c_runs.specs.Tree.{Steps};
 ghost use Rattle.core_trees.specs.View.{view_loop};
 ghost use Rattle.memory_frames.specs.View.{Still, bases_in, cells_in, facts_in, shape_in, view_point};
 ghost use Rattle.memory_calls.specs.Havoc.{Havoc, havoc_word};

@@ -4,7 +4,7 @@ use Rattle.qed_terms.specs.Setting.{Setting, world_of, Valid}
 use Rattle.qed_terms.specs.Meaning.{truth}
 use Rattle.c_runs.specs.Program.{Function, Program}
 use Rattle.c_runs.specs.Claims.{Stop}
-use Rattle.core_checks.specs.Tree.{Steps}
+use Rattle.c_runs.specs.Tree.{Steps}
 use Rattle.walk_steps.specs.State.{In}
 use Rattle.walk_steps.specs.Walk.{Goal, formula_of}
 use Rattle.program_steps.specs.Stops.{IsStop}

@@ -5,7 +5,7 @@ use Rattle.qed_terms.specs.Meaning as sense
 use Rattle.qed_terms.specs.Setting.{Setting, world_of}
 use Rattle.same_memories.proofs.Functions.{settings_respect}
 use Rattle.c_runs.specs.Program.{Function, Program}
-use Rattle.core_checks.specs.Tree.{Steps}
+use Rattle.c_runs.specs.Tree.{Steps}
 use Rattle.memory_steps.specs.State.{Base, base}
 use Rattle.memory_steps.specs.Step.{sort_at}
 use Rattle.memory_words.specs.Places.{Place, places, slot}

@@ -2,7 +2,7 @@
 use Rattle.std.proofs.Common.{◌≡◌, ℕ, Some}
 use Rattle.qed_terms.specs.Setting.{Setting}
 use Rattle.c_runs.specs.Program.{Function, Program}
-use Rattle.core_checks.specs.Tree.{Steps}
+use Rattle.c_runs.specs.Tree.{Steps}
 use Rattle.memory_words.specs.Shapes.{FileCells}
 use Rattle.memory_words.specs.Readings.{Texts}
 use Rattle.memory_functions.specs.Words.{Written}

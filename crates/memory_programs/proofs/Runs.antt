@@ -1,7 +1,7 @@
 -- Segment runs are those of words; where goals are valid, no segment run goes wrong, and so no run does.
 use Rattle.qed_terms.specs.Setting.{world_of}
-use Rattle.core_checks.specs.Told.{normal}
-use Rattle.core_checks.specs.Adding.{add_checks}
+use Rattle.c_runs.specs.CheckedTold.{normal}
+use Rattle.c_runs.specs.Adding.{add_checks}
 use Rattle.run_changes.proofs.Runs.{runs_change_what_they_may}
 use Rattle.run_changes.proofs.Promises.{runs_keep_promises}
 use Rattle.typed_modular.proofs.Spelled.{modular_as_spelled}

@@ -10,9 +10,9 @@ use Rattle.c_runs.specs.Calls.{Eval, stops}
 use Rattle.c_runs.specs.Entry.{Enters}
 use Rattle.c_runs.specs.Run as spelled
 use Rattle.c_runs.specs.Allowed.{MayChange}
-use Rattle.core_checks.specs.Told.{normal}
-use Rattle.core_checks.specs.Adding.{add_checks}
-use Rattle.core_checks.specs.Tree.{Steps}
+use Rattle.c_runs.specs.CheckedTold.{normal}
+use Rattle.c_runs.specs.Adding.{add_checks}
+use Rattle.c_runs.specs.Tree.{Steps}
 use Rattle.goal_segments.specs.Segments.{FunctionSeg}
 use Rattle.goal_segments.specs.Laws.{IsClosed, NoneFails, GoesWell}
 use Rattle.run_changes.specs.Laws.{Behind, Promised}

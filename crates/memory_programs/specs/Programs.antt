@@ -2,7 +2,7 @@
 use Rattle.std.specs.Prelude.{◌≡◌, ℕ, Bool, true, List, Some}
 use Rattle.qed_terms.specs.Setting.{Setting, world_of, Valid}
 use Rattle.c_runs.specs.Program.{Function, Program}
-use Rattle.core_checks.specs.Tree.{Steps}
+use Rattle.c_runs.specs.Tree.{Steps}
 use Rattle.typed_runs.specs.Fitting.{FitsProgram}
 use Rattle.typed_modular.specs.Solid.{SetsFit}
 use Rattle.walk_steps.specs.State.{In}

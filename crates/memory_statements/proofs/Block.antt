@@ -11,19 +11,19 @@ use Rattle.wp_base.specs.Blocks.{count, alloc, block_of, is_block, cells_of, has
 use Rattle.c_kinds.specs.Models.{high, difference_kind}
 use Rattle.typed_prog.specs.declared.operators.Variable.TheVariants as variables
 use Rattle.qed_terms.specs.Meaning as sense
-use Rattle.acsl_truth.specs.States.{Value}
+use Rattle.c_runs.specs.TruthStates.{Value}
 use Rattle.c_runs.specs.Program.{Variable, Facts}
 use Rattle.c_runs.specs.States.{World, home, unset, with_local, with_memory}
 use Rattle.c_runs.specs.Scopes.{filled, with_block, block_made}
-use Rattle.core_runs.specs.Run.{CoreWorld, in_world}
+use Rattle.c_runs.specs.CoreRun.{CoreWorld, in_world}
 use Rattle.goal_segments.specs.Told.{IsGood, with_name}
 use Rattle.goal_segments.specs.Segments.{with_cells}
 use Rattle.typed_memories.proofs.Tests.{on_test, chosen, unchosen, neither}
-use Rattle.memory_changes.specs.Changes.{Makes, StillThere, SameCells}
-use Rattle.memory_changes.proofs.Tables.{new_block, not_count}
-use Rattle.memory_changes.proofs.Making.{hidden_before}
-use Rattle.memory_changes.proofs.Filling.{made_blocks_hold_contents}
-use Rattle.memory_changes.proofs.Alone.{newer_blocks_lack_kinds}
+use Rattle.typed_memories.specs.Changes.{Makes, StillThere, SameCells}
+use Rattle.typed_memories.proofs.Tables.{new_block, not_count}
+use Rattle.typed_memories.proofs.Making.{hidden_before}
+use Rattle.typed_memories.proofs.Filling.{made_blocks_hold_contents}
+use Rattle.typed_memories.proofs.Alone.{newer_blocks_lack_kinds}
 use Rattle.run_blocks.proofs.Standing.{block_still, still_same, still_then}
 use Rattle.run_blocks.proofs.Good.{good_shaped}
 use Rattle.program_steps.specs.Temporaries.{Temporaries}

@@ -6,16 +6,16 @@ use Rattle.wp_base.specs.declared.kinds.CellKind.{CellKind}
 use Rattle.wp_base.specs.declared.kinds.CellKind.TheVariants as cell
 use Rattle.wp_base.specs.Blocks.{count, has_layout}
 use Rattle.typed_prog.specs.declared.operators.Variable.TheVariants as variables
-use Rattle.acsl_truth.specs.States.{Value, number, pointer, addresses, region}
+use Rattle.c_runs.specs.TruthStates.{Value, number, pointer, addresses, region}
 use Rattle.c_runs.specs.Program.{Variable, Facts}
 use Rattle.c_runs.specs.States.{World, home, unset, global_home}
 use Rattle.c_runs.specs.Scopes.{is_content}
-use Rattle.core_runs.specs.Run.{CoreWorld, in_world}
+use Rattle.c_runs.specs.CoreRun.{CoreWorld, in_world}
 use Rattle.goal_segments.specs.Told.{IsGood}
 use Rattle.goal_segments.specs.Segments.{SameBlocks}
 use Rattle.typed_memories.proofs.Tests.{both_so}
-use Rattle.memory_changes.proofs.Tables.{below_more}
-use Rattle.memory_changes.specs.Changes.{SameHidden}
+use Rattle.typed_memories.proofs.Tables.{below_more}
+use Rattle.typed_memories.specs.Changes.{SameHidden}
 use Rattle.memory_steps.specs.State.{State, HasSort, number as number_datum, nothing}
 use Rattle.memory_words.specs.Places.{Place, value, offset, flag, temporary, temporary_offset, IsIn, held, number_in, number_at}
 use Rattle.memory_words.proofs.Lists.{found_below}

@@ -10,12 +10,12 @@ use Rattle.c_runs.specs.Scopes.{ended_since}
 use Rattle.goal_segments.specs.Told.{IsGood}
 use Rattle.typed_memories.specs.Cells.{read_in, lies_inside}
 use Rattle.typed_memories.proofs.Tests.{unchosen}
-use Rattle.memory_changes.specs.Changes as changes
-use Rattle.memory_changes.specs.Changes.{Sets}
-use Rattle.memory_changes.proofs.Tables.{cell_below, grown_block}
-use Rattle.memory_changes.proofs.Making.{before_since}
-use Rattle.memory_changes.proofs.Ending.{growing_ends_blocks, standing_blocks_stay}
-use Rattle.memory_changes.proofs.Alone.{same_ended, kinds_left_alone_are_read}
+use Rattle.typed_memories.specs.Changes as changes
+use Rattle.typed_memories.specs.Changes.{Sets}
+use Rattle.typed_memories.proofs.Tables.{cell_below, grown_block}
+use Rattle.typed_memories.proofs.Making.{before_since}
+use Rattle.typed_memories.proofs.Ending.{growing_ends_blocks, standing_blocks_stay}
+use Rattle.typed_memories.proofs.Alone.{same_ended, kinds_left_alone_are_read}
 use Rattle.run_blocks.proofs.Standing.{still}
 use Rattle.walk_steps.specs.State.{at_or}
 use Rattle.memory_steps.specs.State.{State, state}

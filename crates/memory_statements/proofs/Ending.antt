@@ -5,21 +5,21 @@ use Rattle.std.proofs.lemmas.Bool.{leb-true, le-leb}
 use Rattle.wp_base.specs.Blocks.{Table, count, grow}
 use Rattle.typed_prog.specs.declared.operators.Variable.TheVariants as variables
 use Rattle.qed_terms.specs.Meaning as sense
-use Rattle.acsl_truth.specs.States.{number}
+use Rattle.c_runs.specs.TruthStates.{number}
 use Rattle.c_runs.specs.Program.{Facts}
 use Rattle.c_runs.specs.States.{Memory, World, with_memory}
 use Rattle.c_runs.specs.Scopes.{ended_since}
-use Rattle.core_runs.specs.Run.{CoreWorld, in_world}
+use Rattle.c_runs.specs.CoreRun.{CoreWorld, in_world}
 use Rattle.goal_segments.specs.Told.{IsGood}
 use Rattle.goal_segments.specs.Segments.{SameBlocks}
 use Rattle.typed_memories.specs.Cells.{typed, encoded}
 use Rattle.typed_memories.proofs.Listing.{states_have_memories}
-use Rattle.memory_changes.specs.Changes.{StillThere}
+use Rattle.typed_memories.specs.Changes.{StillThere}
 use Rattle.typed_memories.proofs.Tests.{chosen}
-use Rattle.memory_changes.proofs.Tables.{same_grown, grown_same}
-use Rattle.memory_changes.proofs.Making.{hidden_before}
-use Rattle.memory_changes.proofs.Alone.{newer_blocks_lack_kinds}
-use Rattle.memory_changes.proofs.Ending.{growing_ends_blocks, standing_blocks_stay}
+use Rattle.typed_memories.proofs.Tables.{same_grown, grown_same}
+use Rattle.typed_memories.proofs.Making.{hidden_before}
+use Rattle.typed_memories.proofs.Alone.{newer_blocks_lack_kinds}
+use Rattle.typed_memories.proofs.Ending.{growing_ends_blocks, standing_blocks_stay}
 use Rattle.run_blocks.proofs.Standing.{still_same, still_then}
 use Rattle.run_blocks.proofs.Good.{ends_are_good}
 use Rattle.program_steps.specs.Temporaries.{Temporaries}

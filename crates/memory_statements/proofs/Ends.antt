@@ -2,10 +2,10 @@
 use Rattle.std.proofs.Common.{◌≡◌, ◌<◌, ℕ, zero, suc, List, [], ◌∷◌, refl, sym, ap, ◌∙◌, subst, arith}
 use Rattle.c_runs.specs.Program.{Facts}
 use Rattle.c_runs.specs.Claims.{Stop}
-use Rattle.core_runs.specs.Run as run
-use Rattle.core_runs.specs.Run.{CoreWorld, Ending}
-use Rattle.segments.specs.Segments as segment
-use Rattle.segments.specs.Segments.{BlockEnds, Leaves, by_exit, by_return, by_stop}
+use Rattle.c_runs.specs.CoreRun as run
+use Rattle.c_runs.specs.CoreRun.{CoreWorld, Ending}
+use Rattle.goal_segments.specs.RunSegments as segment
+use Rattle.goal_segments.specs.RunSegments.{BlockEnds, Leaves, by_exit, by_return, by_stop}
 use Rattle.walk_steps.specs.Forms.{Place}
 use Rattle.memory_steps.specs.State.{State}
 use Rattle.memory_steps.specs.Run.{End, goes_on, leaves, fails, out, IsOver}

@@ -17,7 +17,7 @@ use Rattle.typed_memories.specs.Cells.{Cells, numbers_by, pointers_by, FormedAt,
 use Rattle.typed_memories.proofs.Tests.{both_so}
 use Rattle.typed_memories.proofs.Formed.{well_formed_says}
 use Rattle.typed_memories.proofs.Stated.{frames_say}
-use Rattle.memory_changes.specs.Changes.{Sets}
+use Rattle.typed_memories.specs.Changes.{Sets}
 use Rattle.acsl_encode.specs.Told.{those}
 use Rattle.walk_steps.specs.State.{at_or}
 use Rattle.memory_steps.specs.State.{Datum, State, nothing}

@@ -7,12 +7,12 @@ use Rattle.wp_base.specs.declared.kinds.CellKind.{CellKind}
 use Rattle.wp_base.specs.declared.kinds.Layout.{Layout}
 use Rattle.wp_base.specs.Blocks.{Table, count, block_of, is_block, has_layout, cells_of, same_cell, same_cells, same_truth}
 use Rattle.c_runs.specs.Program.{Facts}
-use Rattle.core_runs.specs.Run.{CoreWorld}
+use Rattle.c_runs.specs.CoreRun.{CoreWorld}
 use Rattle.goal_segments.specs.Told.{with_name, with_names}
 use Rattle.goal_segments.specs.Segments.{SameBlocks}
 use Rattle.typed_memories.proofs.Tests.{on_test}
-use Rattle.memory_changes.specs.Changes.{StillThere}
-use Rattle.memory_changes.proofs.Tables.{no_block}
+use Rattle.typed_memories.specs.Changes.{StillThere}
+use Rattle.typed_memories.proofs.Tables.{no_block}
 use Rattle.memory_steps.specs.State.{State}
 use Rattle.program_steps.specs.Temporaries.{Temporaries}
 use Rattle.memory_words.specs.Shapes.{FileCells, Shape}

@@ -10,14 +10,14 @@ use Rattle.c_runs.specs.Told.{Value}
 use Rattle.c_runs.specs.Program.{Contract, Facts, Program}
 use Rattle.c_runs.specs.States.{Here}
 use Rattle.c_runs.specs.Scopes.{is_content}
-use Rattle.core_runs.specs.Run as run
-use Rattle.core_runs.specs.Run.{CoreWorld, Ending}
-use Rattle.rte_checks.specs.Checks.{Check, checks_of}
-use Rattle.rte_checks.specs.Tests.{total, is_met}
-use Rattle.core_checks.specs.Tree as core
-use Rattle.core_checks.specs.Tree.{Steps}
-use Rattle.core_checks.specs.Run as exec
-use Rattle.segments.specs.Segments.{Asks}
+use Rattle.c_runs.specs.CoreRun as run
+use Rattle.c_runs.specs.CoreRun.{CoreWorld, Ending}
+use Rattle.c_runs.specs.Checks.{Check, checks_of}
+use Rattle.c_runs.specs.Tests.{total, is_met}
+use Rattle.c_runs.specs.Tree as core
+use Rattle.c_runs.specs.Tree.{Steps}
+use Rattle.c_runs.specs.CheckedRun as exec
+use Rattle.goal_segments.specs.RunSegments.{Asks}
 use Rattle.goal_segments.specs.Segments as segs
 use Rattle.goal_segments.specs.Segments.{no_deeper, IsResult}
 use Rattle.value_terms.specs.Readings.{Term}

@@ -13,7 +13,7 @@ use Rattle.c_runs.specs.Told.{Value}
 use Rattle.c_runs.specs.Program.{Facts}
 use Rattle.c_runs.specs.States.{with_cell, with_memory, stored_in}
 use Rattle.c_runs.specs.Scopes.{is_content}
-use Rattle.core_runs.specs.Run.{CoreWorld, in_world}
+use Rattle.c_runs.specs.CoreRun.{CoreWorld, in_world}
 use Rattle.typed_memories.specs.Cells.{numbers_by}
 use Rattle.typed_memories.proofs.Stated.{content_has_form}
 use Rattle.value_terms.specs.Readings.{Term}

@@ -7,11 +7,11 @@ use Rattle.c_runs.specs.Told.{Value}
 use Rattle.c_runs.specs.Calls.{nought}
 use Rattle.c_runs.specs.Program.{Contract, Facts, Program}
 use Rattle.c_runs.specs.States.{Here}
-use Rattle.core_runs.specs.Run as run
-use Rattle.core_runs.specs.Run.{CoreWorld, Ending}
-use Rattle.core_checks.specs.Tree as core
-use Rattle.core_checks.specs.Tree.{Steps}
-use Rattle.core_checks.specs.Run as exec
+use Rattle.c_runs.specs.CoreRun as run
+use Rattle.c_runs.specs.CoreRun.{CoreWorld, Ending}
+use Rattle.c_runs.specs.Tree as core
+use Rattle.c_runs.specs.Tree.{Steps}
+use Rattle.c_runs.specs.CheckedRun as exec
 use Rattle.goal_segments.specs.Segments as segs
 use Rattle.goal_segments.specs.Segments.{IsResult, is_single, no_deeper}
 use Rattle.walk_steps.specs.Forms.{Place as CheckPlace}

@@ -8,9 +8,9 @@ use Rattle.qed_terms.specs.Memory.{load}
 use Rattle.qed_terms.specs.Meaning as sense
 use Rattle.qed_terms.specs.Meaning.{Values, meaning, value}
 use Rattle.qed_terms.specs.Tree.{Tree}
-use Rattle.acsl_truth.specs.States.{Value, number, pointer}
+use Rattle.c_runs.specs.TruthStates.{Value, number, pointer}
 use Rattle.c_runs.specs.Program.{Variable, Facts}
-use Rattle.core_runs.specs.Run.{CoreWorld}
+use Rattle.c_runs.specs.CoreRun.{CoreWorld}
 use Rattle.value_terms.specs.Worlds.{Means}
 use Rattle.value_terms.specs.Laws.{Stood}
 use Rattle.walk_steps.specs.State.{at_or}

@@ -9,7 +9,7 @@ use Rattle.qed_terms.specs.Memory.{load, Region}
 use Rattle.qed_terms.specs.Meaning as sense
 use Rattle.same_memories.specs.Canonical.{canonical}
 use Rattle.same_memories.proofs.Listing.{canonical_holds_the_same, canonical_is_canonical}
-use Rattle.acsl_truth.specs.States.{of_kind, nothing_of}
+use Rattle.c_runs.specs.TruthStates.{of_kind, nothing_of}
 use Rattle.c_runs.specs.Program.{Facts}
 use Rattle.c_runs.specs.States.{Memory}
 use Rattle.c_runs.specs.Scopes.{is_content}
@@ -21,7 +21,7 @@ use Rattle.typed_memories.proofs.Formed.{formed_parts}
 use Rattle.typed_memories.proofs.Decoding.{read_cell, read_nothing, read_has_form, decoded_cell, decoded_shaped, no_hidden_cell, decoded_states_are_shaped}
 use Rattle.typed_memories.proofs.Listing.{states_have_memories}
 use Rattle.typed_memories.proofs.Stated.{well_formed_states_are_formed}
-use Rattle.memory_changes.specs.Changes.{Sets, SameHidden}
+use Rattle.typed_memories.specs.Changes.{Sets, SameHidden}
 use Rattle.run_blocks.proofs.Good.{AllContents, content_more, good_shaped, good_contents, goes_good}
 use Rattle.memory_steps.specs.State.{Datum, cells, number as number_datum, State, with_slots, IsLike, nothing}
 use Rattle.memory_words.specs.Places.{Place, Sizes, numbers, blocks, offsets, IsIn, slots_in, held, memory_in, slots_by}

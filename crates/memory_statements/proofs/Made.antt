@@ -15,11 +15,11 @@ use Rattle.c_runs.specs.States.{Memory}
 use Rattle.goal_segments.specs.Told.{IsGood}
 use Rattle.typed_memories.specs.Cells.{read_in, lies_inside}
 use Rattle.typed_memories.proofs.Tests.{on_test, not_both, same_number}
-use Rattle.memory_changes.specs.Changes.{Sets, since, Makes, StillThere, lacks}
-use Rattle.memory_changes.proofs.Tables.{new_block, other_block, not_count}
-use Rattle.memory_changes.proofs.Making.{before_since, allocations_make_blocks}
-use Rattle.memory_changes.proofs.Ending.{standing_blocks_stay}
-use Rattle.memory_changes.proofs.Alone.{same_made, kinds_left_alone_are_read}
+use Rattle.typed_memories.specs.Changes.{Sets, since, Makes, StillThere, lacks}
+use Rattle.typed_memories.proofs.Tables.{new_block, other_block, not_count}
+use Rattle.typed_memories.proofs.Making.{before_since, allocations_make_blocks}
+use Rattle.typed_memories.proofs.Ending.{standing_blocks_stay}
+use Rattle.typed_memories.proofs.Alone.{same_made, kinds_left_alone_are_read}
 use Rattle.run_blocks.proofs.Standing.{still}
 use Rattle.run_blocks.proofs.Good.{good_contents, have_blocks}
 use Rattle.memory_steps.specs.State.{number as number_datum, State}

@@ -11,7 +11,7 @@ use Rattle.qed_terms.specs.Meaning as sense
 use Rattle.c_runs.specs.Program.{Variable, Facts}
 use Rattle.c_runs.specs.States.{World, plain, with_local}
 use Rattle.c_runs.specs.Scopes.{variable_made, block_made}
-use Rattle.core_runs.specs.Run.{CoreWorld, in_world}
+use Rattle.c_runs.specs.CoreRun.{CoreWorld, in_world}
 use Rattle.goal_segments.specs.Segments.{Opened, all_opened, unknown, with_value, not_set, with_cells}
 use Rattle.typed_memories.proofs.Tests.{on_test, neither, or_left}
 use Rattle.run_blocks.specs.Ends.{is_short}

@@ -6,7 +6,7 @@ use Rattle.std.proofs.lemmas.Bool.{false≢true, and_parts}
 use Rattle.wp_base.specs.declared.kinds.CellKind.{CellKind}
 use Rattle.wp_base.specs.declared.kinds.CellKind.TheVariants as cell
 use Rattle.wp_base.specs.Blocks.{Table, count, grow}
-use Rattle.acsl_truth.specs.States.{Value, number, pointer, addresses, region}
+use Rattle.c_runs.specs.TruthStates.{Value, number, pointer, addresses, region}
 use Rattle.c_runs.specs.Program.{Facts}
 use Rattle.c_runs.specs.States.{Memory}
 use Rattle.c_runs.specs.Scopes.{ended_since}
@@ -14,7 +14,7 @@ use Rattle.c_runs.specs.Entry.{is_value}
 use Rattle.goal_segments.specs.Told.{with_name, with_names}
 use Rattle.goal_segments.specs.Segments.{IsResult}
 use Rattle.typed_memories.proofs.Tests.{on_test, both_so}
-use Rattle.memory_changes.proofs.Tables.{below_more, grown_count}
+use Rattle.typed_memories.proofs.Tables.{below_more, grown_count}
 use Rattle.memory_words.specs.Shapes.{FileCells, Shape}
 use Rattle.memory_words.specs.Readings.{InScope}
 use Rattle.memory_words.proofs.Lists.{found_below}

@@ -8,12 +8,12 @@ use Rattle.typed_prog.specs.declared.operators.Variable.TheVariants as variables
 use Rattle.qed_terms.specs.Meaning as sense
 use Rattle.qed_terms.specs.Tree.{num}
 use Rattle.qed_terms.specs.Operators.{is_equal}
-use Rattle.acsl_truth.specs.States.{Value, number, pointer, nothing_of}
+use Rattle.c_runs.specs.TruthStates.{Value, number, pointer, nothing_of}
 use Rattle.c_runs.specs.Program.{Variable, Facts}
 use Rattle.c_runs.specs.States.{Local, World, plain, with_local}
 use Rattle.c_runs.specs.Entry.{leads_well}
 use Rattle.c_runs.specs.Scopes.{scalar_of, variable_made, is_content}
-use Rattle.core_runs.specs.Run.{CoreWorld, in_world}
+use Rattle.c_runs.specs.CoreRun.{CoreWorld, in_world}
 use Rattle.goal_segments.specs.Told.{with_name}
 use Rattle.goal_segments.specs.Segments.{IsAny, Opened, with_value, not_set}
 use Rattle.goal_segments.proofs.Told.{zero_of}

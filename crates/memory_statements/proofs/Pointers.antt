@@ -9,12 +9,12 @@ use Rattle.qed_terms.specs.Meaning.{meaning}
 use Rattle.qed_terms.specs.Memory as goal
 use Rattle.qed_terms.specs.Memory.{load, store}
 use Rattle.same_memories.specs.Canonical.{canonical}
-use Rattle.acsl_truth.specs.States.{pointer as pointer_value}
+use Rattle.c_runs.specs.TruthStates.{pointer as pointer_value}
 use Rattle.c_runs.specs.Told.{Value}
 use Rattle.c_runs.specs.Program.{Facts}
 use Rattle.c_runs.specs.States.{with_cell, with_memory, stored_in}
 use Rattle.c_runs.specs.Scopes.{is_content}
-use Rattle.core_runs.specs.Run.{CoreWorld, in_world}
+use Rattle.c_runs.specs.CoreRun.{CoreWorld, in_world}
 use Rattle.typed_memories.specs.Cells.{pointers_by}
 use Rattle.typed_memories.proofs.Stated.{content_has_form}
 use Rattle.value_terms.specs.Readings.{Term}

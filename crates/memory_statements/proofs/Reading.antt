@@ -9,7 +9,7 @@ use Rattle.qed_terms.specs.Memory as goal
 use Rattle.qed_terms.specs.Memory.{load, store}
 use Rattle.same_memories.specs.Canonical.{canonical}
 use Rattle.same_memories.proofs.Listing.{canonical_holds_the_same}
-use Rattle.acsl_truth.specs.States.{Value, number, pointer, addresses, region, is_negative}
+use Rattle.c_runs.specs.TruthStates.{Value, number, pointer, addresses, region, is_negative}
 use Rattle.c_runs.specs.Program.{Variable, Facts}
 use Rattle.c_runs.specs.States.{Memory, with_cell, stored_in, global_home}
 use Rattle.c_runs.specs.Scopes.{is_content, scalar_of}

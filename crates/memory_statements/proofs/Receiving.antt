@@ -9,13 +9,13 @@ use Rattle.c_runs.specs.Program.{Variable, Facts, Program, Contract}
 use Rattle.c_runs.specs.States.{Here, plain, with_local, with_memory, stored_in}
 use Rattle.c_runs.specs.Objects.{cell_of}
 use Rattle.c_runs.specs.Effects.{wrote_act, cell_written, initial_act, initial_by, initial_in}
-use Rattle.core_runs.specs.Run.{CoreWorld, Ending, with_eval, in_world}
-use Rattle.core_runs.specs.Run as run
-use Rattle.rte_checks.specs.Checks.{Check}
-use Rattle.rte_checks.specs.Tests.{totals}
-use Rattle.core_checks.specs.Tree.{Steps}
-use Rattle.core_checks.specs.Run as exec
-use Rattle.core_checks.specs.Run.{put_by}
+use Rattle.c_runs.specs.CoreRun.{CoreWorld, Ending, with_eval, in_world}
+use Rattle.c_runs.specs.CoreRun as run
+use Rattle.c_runs.specs.Checks.{Check}
+use Rattle.c_runs.specs.Tests.{totals}
+use Rattle.c_runs.specs.Tree.{Steps}
+use Rattle.c_runs.specs.CheckedRun as exec
+use Rattle.c_runs.specs.CheckedRun.{put_by}
 use Rattle.goal_segments.specs.Segments.{no_deeper}
 use Rattle.value_terms.specs.Readings.{Term, as_pointer}
 use Rattle.value_terms.specs.Terms.{terms_of}

@@ -8,10 +8,10 @@ use Rattle.typed_prog.specs.declared.operators.Variable.TheVariants as variables
 use Rattle.qed_terms.specs.Meaning as sense
 use Rattle.qed_terms.specs.Meaning.{value}
 use Rattle.qed_terms.specs.Tree.{Tree, num}
-use Rattle.acsl_truth.specs.States as labelled
+use Rattle.c_runs.specs.TruthStates as labelled
 use Rattle.c_runs.specs.Program.{Contract, Facts}
 use Rattle.c_runs.specs.States.{Here}
-use Rattle.memory_changes.specs.Changes.{LacksSince}
+use Rattle.typed_memories.specs.Changes.{LacksSince}
 use Rattle.memory_steps.specs.State.{State}
 use Rattle.memory_words.specs.Leaves.{leaves_of}
 use Rattle.memory_words.specs.Shapes.{FileCells, Shape}

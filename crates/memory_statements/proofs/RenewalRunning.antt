@@ -8,7 +8,7 @@ use Rattle.qed_terms.specs.Memory.{load}
 use Rattle.qed_terms.specs.Meaning as sense
 use Rattle.c_runs.specs.Program.{Facts}
 use Rattle.typed_memories.specs.Cells.{Cells, numbers_by, pointers_by, FormedAt}
-use Rattle.memory_changes.specs.Changes.{Sets}
+use Rattle.typed_memories.specs.Changes.{Sets}
 use Rattle.memory_steps.specs.State.{Datum, State, state, with_slots, IsLike}
 use Rattle.memory_steps.specs.Forms.{AllTold}
 use Rattle.memory_steps.specs.Step.{Change}

@@ -9,10 +9,10 @@ use Rattle.c_runs.specs.States.{Memory}
 use Rattle.goal_segments.specs.Told.{IsGood}
 use Rattle.goal_segments.specs.Segments.{SameBlocks}
 use Rattle.typed_memories.specs.Cells.{read_in}
-use Rattle.memory_changes.specs.Changes.{Sets}
-use Rattle.memory_changes.specs.Laws.{Both, FramesAre}
-use Rattle.memory_changes.proofs.Framing.{frames_are_changes}
-use Rattle.memory_changes.proofs.Alone.{same_changed}
+use Rattle.typed_memories.specs.Changes.{Sets}
+use Rattle.typed_memories.specs.ChangeLaws.{Both, FramesAre}
+use Rattle.typed_memories.proofs.Framing.{frames_are_changes}
+use Rattle.typed_memories.proofs.Alone.{same_changed}
 use Rattle.run_blocks.proofs.Standing.{still_same}
 use Rattle.run_blocks.proofs.Good.{good_shaped, have_blocks}
 use Rattle.memory_words.specs.Shapes.{FileCells}

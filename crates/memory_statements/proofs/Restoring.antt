@@ -9,7 +9,7 @@ use Rattle.qed_terms.specs.Meaning as sense
 use Rattle.c_runs.specs.Program.{Facts}
 use Rattle.c_runs.specs.States.{World, home, unset, with_local}
 use Rattle.c_runs.specs.Scopes.{without_locals}
-use Rattle.core_runs.specs.Run.{CoreWorld, in_world}
+use Rattle.c_runs.specs.CoreRun.{CoreWorld, in_world}
 use Rattle.goal_segments.specs.Segments.{SameBlocks}
 use Rattle.typed_memories.proofs.Tests.{on_test}
 use Rattle.walk_steps.specs.State.{at_or, put, restore}

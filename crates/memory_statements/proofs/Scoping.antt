@@ -6,14 +6,14 @@ use Rattle.qed_terms.specs.Meaning as sense
 use Rattle.c_runs.specs.Program.{Facts, Program}
 use Rattle.c_runs.specs.States.{Memory, World, Here, unset, with_memory}
 use Rattle.c_runs.specs.Scopes.{ended_since, left}
-use Rattle.core_runs.specs.Run as run
-use Rattle.core_runs.specs.Run.{CoreWorld, Ending, in_world, scope_end, scope_left}
-use Rattle.core_checks.specs.Tree as core
-use Rattle.core_checks.specs.Tree.{Steps}
+use Rattle.c_runs.specs.CoreRun as run
+use Rattle.c_runs.specs.CoreRun.{CoreWorld, Ending, in_world, scope_end, scope_left}
+use Rattle.c_runs.specs.Tree as core
+use Rattle.c_runs.specs.Tree.{Steps}
 use Rattle.goal_segments.specs.Told.{with_names}
 use Rattle.goal_segments.specs.Segments as segs
 use Rattle.goal_segments.specs.Segments.{Opened, SameBlocks, is_single}
-use Rattle.memory_changes.specs.Changes.{StillThere}
+use Rattle.typed_memories.specs.Changes.{StillThere}
 use Rattle.run_blocks.specs.Ends.{StillAt}
 use Rattle.run_blocks.proofs.Standing.{still_then}
 use Rattle.walk_steps.specs.Forms.{Place as CheckPlace}

@@ -10,7 +10,7 @@ use Rattle.c_runs.specs.Told.{Value}
 use Rattle.c_runs.specs.Program.{Variable, Facts}
 use Rattle.c_runs.specs.States.{Memory, with_memory, stored_in, global_home}
 use Rattle.c_runs.specs.Scopes.{is_content}
-use Rattle.core_runs.specs.Run.{CoreWorld, in_world}
+use Rattle.c_runs.specs.CoreRun.{CoreWorld, in_world}
 use Rattle.typed_memories.proofs.Tests.{on_test}
 use Rattle.typed_memories.proofs.CellKinds.{same_kind, kind_same}
 use Rattle.typed_memories.proofs.Stated.{content_has_form}

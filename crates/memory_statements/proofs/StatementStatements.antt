@@ -11,13 +11,13 @@ use Rattle.qed_terms.specs.Meaning as sense
 use Rattle.c_runs.specs.Program.{Variable, Contract, Facts, Program}
 use Rattle.c_runs.specs.States.{Here}
 use Rattle.c_runs.specs.Objects.{cell_of}
-use Rattle.core_runs.specs.Run as run
-use Rattle.core_runs.specs.Run.{CoreWorld, Ending, block_end}
-use Rattle.rte_checks.specs.Checks.{Check, checks_of}
-use Rattle.core_checks.specs.Tree as core
-use Rattle.core_checks.specs.Tree.{Steps}
+use Rattle.c_runs.specs.CoreRun as run
+use Rattle.c_runs.specs.CoreRun.{CoreWorld, Ending, block_end}
+use Rattle.c_runs.specs.Checks.{Check, checks_of}
+use Rattle.c_runs.specs.Tree as core
+use Rattle.c_runs.specs.Tree.{Steps}
 use Rattle.run_blocks.specs.Ends.{is_short}
-use Rattle.segments.specs.Segments.{BlockEnds, Leaves}
+use Rattle.goal_segments.specs.RunSegments.{BlockEnds, Leaves}
 use Rattle.goal_segments.specs.Segments as segs
 use Rattle.goal_segments.proofs.Following.{block_ends}
 use Rattle.value_terms.specs.Terms.{terms_of}

@@ -11,9 +11,9 @@ use Rattle.qed_terms.specs.Meaning as sense
 use Rattle.qed_terms.specs.Meaning.{value, truth, is_so, meanings, each_true, some_true}
 use Rattle.qed_terms.specs.Operators.{is_equal}
 use Rattle.qed_terms.specs.Tree.{Tree, trees_of, at_most}
-use Rattle.acsl_truth.specs.States.{Value, span_of, cells_of, address_at, is_among, some_between, covers, is_negative}
-use Rattle.acsl_truth.specs.Allowed as allowed
-use Rattle.acsl_truth.specs.Allowed.{lies_in, is_named}
+use Rattle.c_runs.specs.TruthStates.{Value, span_of, cells_of, address_at, is_among, some_between, covers, is_negative}
+use Rattle.c_runs.specs.TruthAllowed as allowed
+use Rattle.c_runs.specs.TruthAllowed.{lies_in, is_named}
 use Rattle.acsl_encode.specs.Meaning.{HasAddress}
 use Rattle.acsl_encode.specs.Encode.{all_of}
 use Rattle.acsl_encode.specs.Told.{those, every_cell}

@@ -2,20 +2,20 @@
 use Rattle.std.proofs.Common.{◌≡◌, ℕ, ◌+◌, Bool, true, false, ◌||◌, List, [], ◌∷◌, ◌++◌, refl, sym, ap, ◌∙◌, subst}
 use Rattle.std.specs.List.{list_all}
 use Rattle.wp_base.specs.Blocks.{count}
-use Rattle.acsl_truth.specs.Truth.{value_at}
+use Rattle.c_runs.specs.Truth.{value_at}
 use Rattle.c_runs.specs.Told.{Value}
 use Rattle.c_runs.specs.Program.{Variable, Facts, Program}
 use Rattle.c_runs.specs.States.{Here}
 use Rattle.c_runs.specs.Objects.{cell_of}
 use Rattle.c_runs.specs.Effects.{initial_act}
-use Rattle.core_runs.specs.Run.{CoreWorld, Ending, in_world}
-use Rattle.core_runs.specs.Run as run
-use Rattle.rte_checks.specs.Checks.{Check, all_checks}
-use Rattle.rte_checks.specs.Tests.{total, totals, is_met}
-use Rattle.core_checks.specs.Tree as core
-use Rattle.core_checks.specs.Tree.{Steps}
-use Rattle.core_checks.specs.Run as exec
-use Rattle.core_checks.specs.Run.{stored_value}
+use Rattle.c_runs.specs.CoreRun.{CoreWorld, Ending, in_world}
+use Rattle.c_runs.specs.CoreRun as run
+use Rattle.c_runs.specs.Checks.{Check, all_checks}
+use Rattle.c_runs.specs.Tests.{total, totals, is_met}
+use Rattle.c_runs.specs.Tree as core
+use Rattle.c_runs.specs.Tree.{Steps}
+use Rattle.c_runs.specs.CheckedRun as exec
+use Rattle.c_runs.specs.CheckedRun.{stored_value}
 use Rattle.goal_segments.specs.Segments as segs
 use Rattle.goal_segments.specs.Segments.{is_single, no_deeper}
 use Rattle.value_terms.specs.Readings.{Term, term_at}

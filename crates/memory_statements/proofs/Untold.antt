@@ -2,13 +2,13 @@
 use Rattle.std.proofs.Common.{◌≡◌, Bool, false, ℤ, sym, ap, ◌∙◌}
 use Rattle.wp_base.specs.declared.kinds.CellKind.{CellKind}
 use Rattle.wp_base.specs.Blocks.{Table, is_cell}
-use Rattle.acsl_truth.specs.States.{of_kind}
+use Rattle.c_runs.specs.TruthStates.{of_kind}
 use Rattle.c_runs.specs.Program.{Facts}
 use Rattle.c_runs.specs.States.{Memory}
 use Rattle.typed_memories.specs.Cells.{read_in, lies_inside}
 use Rattle.typed_memories.proofs.Tests.{on_test}
 use Rattle.typed_memories.proofs.Decoding.{read_cell, read_nothing}
-use Rattle.memory_changes.specs.Changes.{Sets, AllFramed}
+use Rattle.typed_memories.specs.Changes.{Sets, AllFramed}
 use Rattle.memory_words.specs.Shapes.{FileCells}
 use Rattle.memory_statements.specs.Renewed.{IsRenewal, KeepsUntold}
 

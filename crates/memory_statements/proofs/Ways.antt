@@ -10,21 +10,21 @@ use Rattle.typed_prog.specs.declared.operators.Path.{Path}
 use Rattle.typed_prog.specs.Tree as t
 use Rattle.qed_terms.specs.Meaning as sense
 use Rattle.qed_terms.specs.Meaning.{truth}
-use Rattle.acsl_truth.specs.States.{number, pointer, block_of, offset_of}
-use Rattle.acsl_truth.specs.Truth.{value_at}
+use Rattle.c_runs.specs.TruthStates.{number, pointer, block_of, offset_of}
+use Rattle.c_runs.specs.Truth.{value_at}
 use Rattle.c_runs.specs.Operators.{truth_number}
 use Rattle.c_runs.specs.Told.{Value}
 use Rattle.c_runs.specs.Program.{Facts}
 use Rattle.c_runs.specs.Objects.{plain_root, is_plain_in, cell_of, address}
 use Rattle.c_runs.specs.Operators.{index, access}
 use Rattle.c_runs.specs.Claims.{Stop}
-use Rattle.core_runs.specs.Run.{CoreWorld}
-use Rattle.rte_checks.specs.Checks.{Check, all_checks}
-use Rattle.rte_checks.specs.Tests.{totals}
-use Rattle.core_checks.specs.Run.{asked, is_met_in, place_test, way_test_by, way_values}
-use Rattle.core_checks.specs.Adding.{way_checks_by, way_checks, place_checks}
-use Rattle.core_checks.proofs.Writing.{place_settle}
-use Rattle.segments.specs.Segments.{Asks, all_met, met, unmet}
+use Rattle.c_runs.specs.CoreRun.{CoreWorld}
+use Rattle.c_runs.specs.Checks.{Check, all_checks}
+use Rattle.c_runs.specs.Tests.{totals}
+use Rattle.c_runs.specs.CheckedRun.{asked, is_met_in, place_test, way_test_by, way_values}
+use Rattle.c_runs.specs.Adding.{way_checks_by, way_checks, place_checks}
+use Rattle.c_runs.proofs.Writing.{place_settle}
+use Rattle.goal_segments.specs.RunSegments.{Asks, all_met, met, unmet}
 use Rattle.value_terms.specs.Readings.{Term, as_number, as_test, as_pointer, term_at, plain_global}
 use Rattle.value_terms.specs.Terms.{terms_of, address_term}
 use Rattle.value_terms.specs.Words.{words, checks_in}

@@ -9,16 +9,16 @@ use Rattle.wp_base.specs.Blocks.{Table, has_layout}
 use Rattle.qed_terms.specs.Meaning as sense
 use Rattle.c_runs.specs.Program.{Variable, Contract, Facts, Program}
 use Rattle.c_runs.specs.States.{Memory, World, Here}
-use Rattle.core_runs.specs.Run as run
-use Rattle.core_runs.specs.Run.{CoreWorld, Ending, in_world, scope_end, scope_left}
-use Rattle.core_checks.specs.Tree as core
-use Rattle.core_checks.specs.Tree.{Steps}
+use Rattle.c_runs.specs.CoreRun as run
+use Rattle.c_runs.specs.CoreRun.{CoreWorld, Ending, in_world, scope_end, scope_left}
+use Rattle.c_runs.specs.Tree as core
+use Rattle.c_runs.specs.Tree.{Steps}
 use Rattle.goal_segments.specs.Told.{with_name, with_names}
 use Rattle.goal_segments.specs.Segments as segs
 use Rattle.goal_segments.specs.Segments.{Opened, SameBlocks}
 use Rattle.typed_memories.proofs.Tests.{on_test, or_first, or_second}
-use Rattle.memory_changes.specs.Changes.{StillThere, LacksSince}
-use Rattle.memory_changes.proofs.Alone.{newer_blocks_lack_kinds}
+use Rattle.typed_memories.specs.Changes.{StillThere, LacksSince}
+use Rattle.typed_memories.proofs.Alone.{newer_blocks_lack_kinds}
 use Rattle.run_blocks.specs.Ends.{StillAt, is_short}
 use Rattle.run_blocks.proofs.Standing.{standing_blocks}
 use Rattle.program_steps.specs.Temporaries.{Temporaries, all_live}

@@ -5,13 +5,13 @@ use Rattle.wp_base.specs.declared.kinds.CellKind.{CellKind}
 use Rattle.wp_base.specs.Blocks.{is_cell}
 use Rattle.qed_terms.specs.Meaning as sense
 use Rattle.qed_terms.specs.Tree.{Tree}
-use Rattle.acsl_truth.specs.States.{pointer, is_negative}
+use Rattle.c_runs.specs.TruthStates.{pointer, is_negative}
 use Rattle.c_runs.specs.States.{World, with_memory, stored_in}
 use Rattle.c_runs.specs.Claims as broken
 use Rattle.c_runs.specs.Claims.{failed, may_change}
 use Rattle.c_runs.specs.Effects.{wrote_act, granted, cell_written, kind_there}
-use Rattle.core_runs.specs.Run.{Ending, with_eval, in_world}
-use Rattle.core_runs.specs.Run as run
+use Rattle.c_runs.specs.CoreRun.{Ending, with_eval, in_world}
+use Rattle.c_runs.specs.CoreRun as run
 use Rattle.typed_memories.proofs.CellKinds.{kind_of_cell}
 use Rattle.value_terms.specs.Readings.{block_term, offset_term}
 use Rattle.memory_steps.specs.State.{State}

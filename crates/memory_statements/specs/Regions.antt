@@ -8,8 +8,8 @@ use Rattle.acsl_trees.specs.declared.heads.Head.TheVariants as head
 use Rattle.qed_terms.specs.Meaning as sense
 use Rattle.qed_terms.specs.Meaning.{value, truth}
 use Rattle.qed_terms.specs.Tree.{Tree}
-use Rattle.acsl_truth.specs.States as labelled
-use Rattle.acsl_truth.specs.States.{Value, span_of, is_negative}
+use Rattle.c_runs.specs.TruthStates as labelled
+use Rattle.c_runs.specs.TruthStates.{Value, span_of, is_negative}
 use Rattle.acsl_encode.specs.Readings as annotation
 use Rattle.acsl_encode.specs.Meaning.{HasAddress, IsStretch, Stands}
 use Rattle.c_runs.specs.Program.{Facts}

@@ -11,8 +11,8 @@ use Rattle.c_runs.specs.Scopes.{ended_since}
 use Rattle.goal_segments.specs.Told.{IsGood}
 use Rattle.goal_segments.specs.Segments.{SameBlocks}
 use Rattle.typed_memories.specs.Cells.{lies_inside}
-use Rattle.memory_changes.specs.Changes.{Sets, Makes, StillThere, LacksSince}
-use Rattle.memory_changes.specs.Laws.{HoldsContents}
+use Rattle.typed_memories.specs.Changes.{Sets, Makes, StillThere, LacksSince}
+use Rattle.typed_memories.specs.ChangeLaws.{HoldsContents}
 use Rattle.walk_steps.specs.State.{at_or}
 use Rattle.memory_steps.specs.State.{State, state}
 use Rattle.memory_steps.specs.Run.{End, goes_on, made_in, ended_to, Seg}

@@ -15,7 +15,7 @@ use Rattle.c_runs.specs.Program.{Variable, Facts}
 use Rattle.c_runs.specs.States.{Memory, global_home}
 use Rattle.goal_segments.specs.Told.{IsGood}
 use Rattle.typed_memories.specs.Cells.{read_in, lies_inside, FramedAt, Reads}
-use Rattle.memory_changes.specs.Changes.{Sets, SameHidden, SameCells}
+use Rattle.typed_memories.specs.Changes.{Sets, SameHidden, SameCells}
 use Rattle.memory_steps.specs.State.{Datum, State}
 use Rattle.memory_words.specs.Places.{Place, numbers, blocks, offsets, IsIn, slots_in, held}
 use Rattle.memory_words.specs.Leaves.{is_closed, leaves_of, before_all}

@@ -7,10 +7,10 @@ use Rattle.c_runs.specs.Told.{Value}
 use Rattle.c_runs.specs.Program.{Contract, Facts, Program}
 use Rattle.c_runs.specs.States.{Memory, World, Here}
 use Rattle.c_runs.specs.Scopes.{ended_since}
-use Rattle.core_runs.specs.Run.{CoreWorld, returns}
-use Rattle.rte_checks.specs.Checks.{Check}
-use Rattle.core_checks.specs.Tree as core
-use Rattle.core_checks.specs.Tree.{Steps}
+use Rattle.c_runs.specs.CoreRun.{CoreWorld, returns}
+use Rattle.c_runs.specs.Checks.{Check}
+use Rattle.c_runs.specs.Tree as core
+use Rattle.c_runs.specs.Tree.{Steps}
 use Rattle.goal_segments.specs.Segments.{SameBlocks, Opened, IsResult}
 use Rattle.run_blocks.specs.Ends.{is_short}
 use Rattle.typed_memories.specs.Cells.{IsShaped}

@@ -4,9 +4,9 @@ use Rattle.wp_base.specs.declared.kinds.CellKind.{CellKind}
 use Rattle.wp_base.specs.Blocks.{Table}
 use Rattle.c_runs.specs.Program.{Facts}
 use Rattle.c_runs.specs.States.{World, with_memory}
-use Rattle.core_runs.specs.Run.{CoreWorld, in_world}
+use Rattle.c_runs.specs.CoreRun.{CoreWorld, in_world}
 use Rattle.goal_segments.specs.Told.{with_names}
-use Rattle.memory_changes.specs.Changes.{StillThere, SameCells}
+use Rattle.typed_memories.specs.Changes.{StillThere, SameCells}
 use Rattle.program_steps.specs.Temporaries.{Temporaries}
 use Rattle.memory_steps.specs.State.{State}
 use Rattle.memory_steps.specs.Step.{Step}

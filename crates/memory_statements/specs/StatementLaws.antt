@@ -4,8 +4,8 @@ use Rattle.std.specs.List.{list_all}
 use Rattle.qed_terms.specs.Meaning as sense
 use Rattle.c_runs.specs.Program.{Contract, Program}
 use Rattle.c_runs.specs.States.{Here}
-use Rattle.core_runs.specs.Run.{CoreWorld}
-use Rattle.core_checks.specs.Tree.{Steps}
+use Rattle.c_runs.specs.CoreRun.{CoreWorld}
+use Rattle.c_runs.specs.Tree.{Steps}
 use Rattle.run_blocks.specs.Ends.{is_short}
 use Rattle.program_steps.specs.Temporaries.{Temporaries}
 use Rattle.memory_steps.specs.State.{State}

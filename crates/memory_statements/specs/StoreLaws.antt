@@ -7,7 +7,7 @@ use Rattle.typed_prog.specs.declared.types.CoreType.{CoreType}
 use Rattle.typed_prog.specs.declared.operators.Path.{Path}
 use Rattle.typed_prog.specs.Tree as t
 use Rattle.qed_terms.specs.Meaning as sense
-use Rattle.acsl_truth.specs.States.{pointer}
+use Rattle.c_runs.specs.TruthStates.{pointer}
 use Rattle.c_runs.specs.Told.{Value}
 use Rattle.c_runs.specs.Program.{Contract, Facts, Program}
 use Rattle.c_runs.specs.States.{Here, with_memory, stored_in}
@@ -15,13 +15,13 @@ use Rattle.c_runs.specs.Objects.{plain_root, cell_of}
 use Rattle.c_runs.specs.Claims as broken
 use Rattle.c_runs.specs.Effects.{wrote_act, cell_written, initial_act}
 use Rattle.c_runs.specs.Scopes.{is_content}
-use Rattle.core_runs.specs.Run.{CoreWorld, Ending, goes_on, with_eval, in_world}
-use Rattle.rte_checks.specs.Checks.{Check, checks_of}
-use Rattle.rte_checks.specs.Tests.{totals}
-use Rattle.core_checks.specs.Tree as core
-use Rattle.core_checks.specs.Tree.{Steps}
-use Rattle.core_checks.specs.Run as exec
-use Rattle.core_checks.specs.Run.{asked, place_test}
+use Rattle.c_runs.specs.CoreRun.{CoreWorld, Ending, goes_on, with_eval, in_world}
+use Rattle.c_runs.specs.Checks.{Check, checks_of}
+use Rattle.c_runs.specs.Tests.{totals}
+use Rattle.c_runs.specs.Tree as core
+use Rattle.c_runs.specs.Tree.{Steps}
+use Rattle.c_runs.specs.CheckedRun as exec
+use Rattle.c_runs.specs.CheckedRun.{asked, place_test}
 use Rattle.goal_segments.specs.Segments as segs
 use Rattle.value_terms.specs.Readings.{Term, block_term, offset_term, plain_global}
 use Rattle.value_terms.specs.Terms.{term_of, terms_of, address_term}

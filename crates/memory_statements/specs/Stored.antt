@@ -6,15 +6,15 @@ use Rattle.typed_prog.specs.declared.types.CoreType.{CoreType}
 use Rattle.typed_prog.specs.declared.operators.Path.{Path}
 use Rattle.typed_prog.specs.Tree as t
 use Rattle.qed_terms.specs.Meaning as sense
-use Rattle.acsl_truth.specs.States.{pointer}
-use Rattle.acsl_truth.specs.Truth.{value_at}
+use Rattle.c_runs.specs.TruthStates.{pointer}
+use Rattle.c_runs.specs.Truth.{value_at}
 use Rattle.c_runs.specs.Told.{Value}
 use Rattle.c_runs.specs.Program.{Facts}
 use Rattle.c_runs.specs.Objects.{plain_root, cell_of, address}
-use Rattle.core_runs.specs.Run.{CoreWorld}
-use Rattle.core_checks.specs.Run.{way_values}
-use Rattle.rte_checks.specs.Checks.{Check, all_checks}
-use Rattle.rte_checks.specs.Tests.{totals}
+use Rattle.c_runs.specs.CoreRun.{CoreWorld}
+use Rattle.c_runs.specs.CheckedRun.{way_values}
+use Rattle.c_runs.specs.Checks.{Check, all_checks}
+use Rattle.c_runs.specs.Tests.{totals}
 use Rattle.value_terms.specs.Readings.{Term, block_term, offset_term, term_at, plain_global}
 use Rattle.value_terms.specs.Terms.{terms_of, address_term}
 use Rattle.value_terms.specs.Typed.{operand_kind}

@@ -10,7 +10,7 @@ use Rattle.qed_terms.specs.Fresh.{Used, use_one}
 use Rattle.qed_terms.specs.Meaning as sense
 use Rattle.qed_terms.specs.Meaning.{Whole, Values, with_int, value}
 use Rattle.goal_segments.specs.Segments.{SameBlocks}
-use Rattle.memory_changes.proofs.Tables.{same_grown, grown_same}
+use Rattle.typed_memories.proofs.Tables.{same_grown, grown_same}
 use Rattle.walk_steps.specs.World.{IsBase}
 use Rattle.walk_steps.proofs.Lists.{cons_parts}
 use Rattle.walk_steps.proofs.Asking.{Holds}

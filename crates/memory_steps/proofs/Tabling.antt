@@ -5,7 +5,7 @@ use Rattle.wp_base.specs.Blocks.{count, alloc, grow}
 use Rattle.qed_terms.specs.Fresh.{Used, use_one}
 use Rattle.qed_terms.specs.Meaning as sense
 use Rattle.qed_terms.specs.Meaning.{Whole, Values, with_int, value}
-use Rattle.memory_changes.proofs.Tables.{grown_same}
+use Rattle.typed_memories.proofs.Tables.{grown_same}
 use Rattle.walk_steps.proofs.Lists.{put_map, put_length}
 use Rattle.walk_steps.proofs.Asking.{Holds, holds_front, holds_back, holds_both}
 use Rattle.walk_steps.proofs.Naming.{Grows, use_grows, use_itself, next_name, with_next_new}

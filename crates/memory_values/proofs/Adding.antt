@@ -7,7 +7,7 @@ use Rattle.qed_terms.specs.declared.term.Formula.{Formula}
 use Rattle.qed_terms.specs.Tree.{Tree}
 use Rattle.qed_terms.specs.View.{formula_tree}
 use Rattle.c_runs.specs.Operators as c
-use Rattle.rte_checks.specs.Checks.{here}
+use Rattle.c_runs.specs.Checks.{here}
 use Rattle.check_lists.specs.declared.checks.Undefined.{Undefined}
 use Rattle.check_lists.specs.View.{view_undefined}
 use Rattle.value_terms.specs.Words as words

@@ -11,7 +11,7 @@ use Rattle.typed_prog.specs.Tree as t
 use Rattle.qed_terms.specs.Tree.{Tree, num}
 use Rattle.c_runs.specs.Program as program
 use Rattle.c_runs.specs.Program.{Facts}
-use Rattle.rte_checks.specs.Checks.{here}
+use Rattle.c_runs.specs.Checks.{here}
 use Rattle.value_terms.specs.Readings.{Term, as_number, as_test, as_pointer, number_term, block_term, offset_term, condition, term_at, Reading}
 use Rattle.value_terms.specs.Terms.{address_term, terms_of}
 use Rattle.value_terms.specs.Places.{way_items}

@@ -10,7 +10,7 @@ use Rattle.typed_prog.specs.Tree as t
 use Rattle.typed_prog.specs.View.{view_value, view_values}
 use Rattle.qed_terms.specs.Tree.{num}
 use Rattle.c_runs.specs.Program.{Facts, Variable}
-use Rattle.rte_checks.specs.Checks.{here, in_operand, later}
+use Rattle.c_runs.specs.Checks.{here, in_operand, later}
 use Rattle.value_terms.specs.Readings as readings
 use Rattle.value_terms.specs.Readings.{Reading, as_number, as_pointer}
 use Rattle.value_terms.specs.Terms.{op_term, node_term, term_of, terms_of}

@@ -25,7 +25,7 @@ use Rattle.c_runs.specs.Program.{Facts}
 use Rattle.c_runs.specs.Operators.{Undefined, overflow}
 use Rattle.c_runs.specs.Objects.{plain_root, cell_of}
 use Rattle.c_runs.specs.Values.{kind_at}
-use Rattle.rte_checks.specs.Checks.{Check, second_constant, in_operand, later}
+use Rattle.c_runs.specs.Checks.{Check, second_constant, in_operand, later}
 use Rattle.value_terms.specs.Readings.{Term, Reading, plain_global}
 use Rattle.value_terms.specs.Terms.{exact_term}
 use Rattle.value_terms.specs.Places.{write_term, way_items}

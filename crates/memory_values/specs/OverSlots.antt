@@ -10,7 +10,7 @@ use Rattle.qed_terms.specs.Tree.{Tree, num}
 use Rattle.walk_steps.specs.State.{at_or}
 use Rattle.c_runs.specs.Program as program
 use Rattle.c_runs.specs.Program.{Facts}
-use Rattle.rte_checks.specs.Checks.{here}
+use Rattle.c_runs.specs.Checks.{here}
 use Rattle.value_terms.specs.Readings.{Term, as_number, as_test, as_pointer, Reading}
 use Rattle.value_terms.specs.Words.{Item, asked, known}
 use Rattle.memory_steps.specs.Forms.{Slots}

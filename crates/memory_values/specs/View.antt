@@ -5,7 +5,7 @@ use Rattle.program_trees.specs.View.{view_facts}
 use Rattle.qed_terms.specs.Tree.{Tree}
 use Rattle.qed_terms.specs.View.{formula_tree, term_tree}
 use Rattle.c_runs.specs.Program.{Facts}
-use Rattle.rte_checks.specs.Checks.{here}
+use Rattle.c_runs.specs.Checks.{here}
 use Rattle.check_lists.specs.View.{view_undefined}
 use Rattle.value_terms.specs.Readings as plain
 use Rattle.value_terms.specs.Words as words

@@ -2,7 +2,7 @@
 ghost use Rattle.std.specs.Prelude.{◌∷◌, []};
 ghost use Rattle.check_lists.specs.View.{view_undefined};
 ghost use Rattle.qed_terms.specs.Tree.{Tree};
-ghost use Rattle.rte_checks.specs.Checks.{here};
+ghost use Rattle.c_runs.specs.Checks.{here};
 ghost use Rattle.value_terms.specs.Words as spec;
 ghost use Rattle.term_drafts.specs.Drafts.{FormulaIs};
 ghost use Rattle.memory_values.specs.Drafts.{Pushes};

@@ -4,7 +4,7 @@ ghost use Rattle.c_runs.specs.Operators.{comparing, is_order as is_order_of, ove
 ghost use Rattle.c_runs.specs.Values.{kind_at as kind_at_of};
 ghost use Rattle.qed_terms.specs.Tree.{not_of};
 ghost use Rattle.qed_terms.specs.declared.head.TermOp.TheVariants as term_ops;
-ghost use Rattle.rte_checks.specs.Checks.{second_constant as second_constant_of};
+ghost use Rattle.c_runs.specs.Checks.{second_constant as second_constant_of};
 ghost use Rattle.typed_prog.specs.Tree.{values_of};
 ghost use Rattle.typed_prog.specs.View.{view_values};
 ghost use Rattle.value_terms.specs.Readings as readings;

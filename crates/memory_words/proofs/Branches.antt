@@ -8,17 +8,17 @@ use Rattle.typed_prog.specs.Tree as t
 use Rattle.qed_terms.specs.Meaning as sense
 use Rattle.qed_terms.specs.Meaning.{truth}
 use Rattle.qed_terms.specs.Tree.{Tree, not_of}
-use Rattle.acsl_truth.specs.States.{Value}
+use Rattle.c_runs.specs.TruthStates.{Value}
 use Rattle.c_runs.specs.Program.{Contract, Facts, Program}
 use Rattle.c_runs.specs.States.{Here, is_nonzero}
 use Rattle.c_runs.specs.Claims.{Stop}
-use Rattle.core_runs.specs.Run.{CoreWorld, Ending, stopped}
-use Rattle.rte_checks.specs.Checks.{Check, checks_of}
-use Rattle.rte_checks.specs.Tests.{is_met}
-use Rattle.core_checks.specs.Tree as core
-use Rattle.core_checks.specs.Tree.{Steps}
-use Rattle.core_checks.specs.Run as exec
-use Rattle.segments.specs.Segments.{Asks}
+use Rattle.c_runs.specs.CoreRun.{CoreWorld, Ending, stopped}
+use Rattle.c_runs.specs.Checks.{Check, checks_of}
+use Rattle.c_runs.specs.Tests.{is_met}
+use Rattle.c_runs.specs.Tree as core
+use Rattle.c_runs.specs.Tree.{Steps}
+use Rattle.c_runs.specs.CheckedRun as exec
+use Rattle.goal_segments.specs.RunSegments.{Asks}
 use Rattle.goal_segments.specs.Segments as segs
 use Rattle.goal_segments.specs.Segments.{no_deeper}
 use Rattle.value_terms.specs.Readings.{condition}

@@ -8,7 +8,7 @@ use Rattle.wp_base.specs.declared.kinds.CellKind.TheVariants as cell
 use Rattle.wp_base.specs.declared.kinds.Layout.{Layout}
 use Rattle.wp_base.specs.Blocks.{Table, count, block_at, has_layout}
 use Rattle.qed_terms.specs.Operators.{is_equal}
-use Rattle.acsl_truth.specs.States.{Value, number, pointer, addresses, region, number_of, block_of as block_in, offset_of, of_kind, is_negative}
+use Rattle.c_runs.specs.TruthStates.{Value, number, pointer, addresses, region, number_of, block_of as block_in, offset_of, of_kind, is_negative}
 use Rattle.c_runs.specs.Program.{Variable, Facts}
 use Rattle.c_runs.specs.States.{Memory, Local, home_from, global_home, count_plain, plain_globals, hidden, cell_by, held_by}
 use Rattle.c_runs.specs.Scopes.{is_content, scalar_of}

@@ -10,8 +10,8 @@ use Rattle.acsl_trees.specs.Tree as acsl
 use Rattle.qed_terms.specs.Meaning as sense
 use Rattle.qed_terms.specs.Meaning.{Values, meaning, value}
 use Rattle.qed_terms.specs.Tree.{Tree}
-use Rattle.acsl_truth.specs.States as labelled
-use Rattle.acsl_truth.specs.States.{Value, number, pointer, number_of, block_of, offset_of, is_negative}
+use Rattle.c_runs.specs.TruthStates as labelled
+use Rattle.c_runs.specs.TruthStates.{Value, number, pointer, number_of, block_of, offset_of, is_negative}
 use Rattle.c_runs.specs.Program.{Variable, Facts}
 use Rattle.c_runs.specs.States.{Memory, plain, seen_by_contract as contract_state, block_of_local, held_by, params_from}
 use Rattle.acsl_encode.specs.Readings.{Common, absent}

@@ -6,12 +6,12 @@ use Rattle.qed_terms.specs.Meaning as sense
 use Rattle.qed_terms.specs.Meaning.{truth}
 use Rattle.qed_terms.specs.Tree.{Tree}
 use Rattle.c_runs.specs.Claims.{Stop, undefined}
-use Rattle.core_runs.specs.Run as run
-use Rattle.core_runs.specs.Run.{Ending, stopped}
-use Rattle.rte_checks.specs.Checks.{Check}
-use Rattle.core_checks.specs.Run as core
-use Rattle.segments.specs.Segments.{Asks, all_met, met, unmet}
-use Rattle.segments.proofs.Agreeing.{asks_asked}
+use Rattle.c_runs.specs.CoreRun as run
+use Rattle.c_runs.specs.CoreRun.{Ending, stopped}
+use Rattle.c_runs.specs.Checks.{Check}
+use Rattle.c_runs.specs.CheckedRun as core
+use Rattle.goal_segments.specs.RunSegments.{Asks, all_met, met, unmet}
+use Rattle.goal_segments.proofs.Agreeing.{asks_asked}
 use Rattle.value_terms.specs.Words.{Item, checks_in}
 use Rattle.value_terms.specs.Laws.{Says}
 use Rattle.typed_memories.proofs.Tests.{on_test}

@@ -13,8 +13,8 @@ use Rattle.qed_terms.specs.Memory.{load}
 use Rattle.qed_terms.specs.Meaning as sense
 use Rattle.qed_terms.specs.Meaning.{Values, meaning, value}
 use Rattle.qed_terms.specs.Tree.{Tree, num}
-use Rattle.acsl_truth.specs.States as labelled
-use Rattle.acsl_truth.specs.States.{Value, number, pointer, number_of, block_of, offset_of, is_negative}
+use Rattle.c_runs.specs.TruthStates as labelled
+use Rattle.c_runs.specs.TruthStates.{Value, number, pointer, number_of, block_of, offset_of, is_negative}
 use Rattle.c_runs.specs.Program.{Variable, Facts}
 use Rattle.c_runs.specs.States.{Memory, Local, seen_with, global_home}
 use Rattle.c_runs.specs.Scopes.{is_content}

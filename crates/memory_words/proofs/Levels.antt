@@ -9,8 +9,8 @@ use Rattle.acsl_trees.specs.Tree as acsl
 use Rattle.qed_terms.specs.Meaning as sense
 use Rattle.qed_terms.specs.Meaning.{Values, meaning, value}
 use Rattle.qed_terms.specs.Tree.{Tree, num}
-use Rattle.acsl_truth.specs.States as labelled
-use Rattle.acsl_truth.specs.States.{number, pointer}
+use Rattle.c_runs.specs.TruthStates as labelled
+use Rattle.c_runs.specs.TruthStates.{number, pointer}
 use Rattle.c_runs.specs.Program.{Variable, Facts}
 use Rattle.c_runs.specs.States.{global_home}
 use Rattle.acsl_encode.specs.Readings.{Common, Slot, home, absent, Pointer, at}

@@ -13,11 +13,11 @@ use Rattle.qed_terms.specs.Meaning as sense
 use Rattle.qed_terms.specs.Meaning.{truth}
 use Rattle.qed_terms.specs.Operators.{is_equal}
 use Rattle.qed_terms.specs.Tree.{num, var, at_most}
-use Rattle.acsl_truth.specs.States.{Value, number as c_number, pointer, nothing_of}
+use Rattle.c_runs.specs.TruthStates.{Value, number as c_number, pointer, nothing_of}
 use Rattle.c_runs.specs.Program.{Variable, Facts}
 use Rattle.c_runs.specs.States.{World, plain, with_local}
 use Rattle.c_runs.specs.Entry.{leads_well}
-use Rattle.core_runs.specs.Run.{CoreWorld, in_world}
+use Rattle.c_runs.specs.CoreRun.{CoreWorld, in_world}
 use Rattle.goal_segments.specs.Segments.{IsAny}
 use Rattle.typed_memories.proofs.Formed.{nothing_in_range}
 use Rattle.walk_steps.specs.State.{at_or}

@@ -11,12 +11,12 @@ use Rattle.qed_terms.specs.Memory.{load}
 use Rattle.qed_terms.specs.Meaning as sense
 use Rattle.qed_terms.specs.Meaning.{Values, meaning, value}
 use Rattle.qed_terms.specs.Tree.{Tree}
-use Rattle.acsl_truth.specs.States.{Value, number, pointer, number_of, block_of as block_in, offset_of}
+use Rattle.c_runs.specs.TruthStates.{Value, number, pointer, number_of, block_of as block_in, offset_of}
 use Rattle.c_runs.specs.Program.{Variable, Facts}
 use Rattle.c_runs.specs.States.{global_home, home_of, block_of_local, held_by}
 use Rattle.c_runs.specs.Scopes.{is_content}
-use Rattle.core_runs.specs.Run.{CoreWorld}
-use Rattle.rte_checks.specs.Tests.{is_set_by}
+use Rattle.c_runs.specs.CoreRun.{CoreWorld}
+use Rattle.c_runs.specs.Tests.{is_set_by}
 use Rattle.typed_memories.proofs.Tests.{on_test, chosen}
 use Rattle.value_terms.specs.Typed.{VariableIs}
 use Rattle.value_terms.specs.Worlds.{HoldsKinds, Means, Stands, flag_of, has_value}

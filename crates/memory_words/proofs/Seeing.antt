@@ -8,11 +8,11 @@ use Rattle.qed_terms.specs.Operators.{is_equal}
 use Rattle.qed_terms.specs.Meaning as sense
 use Rattle.qed_terms.specs.Meaning.{Values, meaning, value}
 use Rattle.qed_terms.specs.Tree.{Tree}
-use Rattle.acsl_truth.specs.States as labelled
-use Rattle.acsl_truth.specs.States.{Value, number, pointer, number_of, block_of, offset_of, is_negative}
+use Rattle.c_runs.specs.TruthStates as labelled
+use Rattle.c_runs.specs.TruthStates.{Value, number, pointer, number_of, block_of, offset_of, is_negative}
 use Rattle.c_runs.specs.Program.{Variable, Facts}
 use Rattle.c_runs.specs.States.{seen, block_of_local, hidden, held_by}
-use Rattle.core_runs.specs.Run.{CoreWorld}
+use Rattle.c_runs.specs.CoreRun.{CoreWorld}
 use Rattle.acsl_encode.specs.Readings.{Common, home, absent}
 use Rattle.acsl_encode.specs.Meaning.{SlotStands, SeenStands}
 use Rattle.memory_steps.specs.State.{State}

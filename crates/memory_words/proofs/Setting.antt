@@ -8,7 +8,7 @@ use Rattle.typed_prog.specs.declared.operators.Variable.TheVariants as variables
 use Rattle.qed_terms.specs.Meaning as sense
 use Rattle.qed_terms.specs.Operators.{is_equal}
 use Rattle.qed_terms.specs.Tree.{num}
-use Rattle.acsl_truth.specs.States.{Value, pointer, number as c_number}
+use Rattle.c_runs.specs.TruthStates.{Value, pointer, number as c_number}
 use Rattle.c_runs.specs.States.{plain}
 use Rattle.value_terms.specs.Readings.{Term, number_term, block_term, offset_term}
 use Rattle.walk_steps.specs.State.{at_or, put}

@@ -14,9 +14,9 @@ use Rattle.typed_prog.specs.Tree as t
 use Rattle.qed_terms.specs.Meaning as sense
 use Rattle.qed_terms.specs.Meaning.{truth}
 use Rattle.qed_terms.specs.Tree.{Tree}
-use Rattle.acsl_truth.specs.States.{Value}
-use Rattle.acsl_truth.specs.States as labelled
-use Rattle.acsl_truth.specs.Truth.{value_at}
+use Rattle.c_runs.specs.TruthStates.{Value}
+use Rattle.c_runs.specs.TruthStates as labelled
+use Rattle.c_runs.specs.Truth.{value_at}
 use Rattle.c_runs.specs.Program.{Variable, Contract, Facts, Program, Claim}
 use Rattle.c_runs.specs.States.{World, Here, plain, seen, with_local, with_memory, stored_in, global_home}
 use Rattle.c_runs.specs.Claims as broken
@@ -24,14 +24,14 @@ use Rattle.c_runs.specs.Claims.{failed, unless_true, in_body, may_change, may_ch
 use Rattle.c_runs.specs.Effects as effects
 use Rattle.c_runs.specs.Effects.{granted, wrote_act, initial_act, kind_there}
 use Rattle.c_runs.specs.Objects.{plain_root, is_plain_in, cell_of, along, start as start_at, address}
-use Rattle.core_runs.specs.Run as run
-use Rattle.core_runs.specs.Run.{CoreWorld, Ending, stopped, with_eval, in_world, with_temp}
-use Rattle.rte_checks.specs.Checks.{Check, checks_of, all_checks, in_operand, later}
-use Rattle.core_checks.specs.Tree as core
-use Rattle.core_checks.specs.Tree.{Steps}
-use Rattle.core_checks.specs.Run as exec
-use Rattle.core_checks.specs.Run.{place_test, way_values, stored_value}
-use Rattle.segments.specs.Segments.{Asks}
+use Rattle.c_runs.specs.CoreRun as run
+use Rattle.c_runs.specs.CoreRun.{CoreWorld, Ending, stopped, with_eval, in_world, with_temp}
+use Rattle.c_runs.specs.Checks.{Check, checks_of, all_checks, in_operand, later}
+use Rattle.c_runs.specs.Tree as core
+use Rattle.c_runs.specs.Tree.{Steps}
+use Rattle.c_runs.specs.CheckedRun as exec
+use Rattle.c_runs.specs.CheckedRun.{place_test, way_values, stored_value}
+use Rattle.goal_segments.specs.RunSegments.{Asks}
 use Rattle.goal_segments.specs.Segments as segs
 use Rattle.goal_segments.specs.Segments.{is_single, no_deeper}
 use Rattle.typed_memories.proofs.Tests.{chosen}

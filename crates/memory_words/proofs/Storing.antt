@@ -11,7 +11,7 @@ use Rattle.wp_base.specs.Blocks.{Table, count, is_cell}
 use Rattle.c_kinds.proofs.Converting.{test_le, le_test}
 use Rattle.typed_prog.specs.declared.operators.Variable.TheVariants as variables
 use Rattle.qed_terms.specs.Operators.{is_equal}
-use Rattle.acsl_truth.specs.States.{Value, number, pointer, addresses, region, of_kind, nothing_of}
+use Rattle.c_runs.specs.TruthStates.{Value, number, pointer, addresses, region, of_kind, nothing_of}
 use Rattle.c_runs.specs.Program.{Variable, Facts}
 use Rattle.c_runs.specs.States.{Memory, global_home, plain_globals, stored_in}
 use Rattle.c_runs.specs.Scopes.{is_content}

@@ -9,13 +9,13 @@ use Rattle.typed_prog.specs.declared.operators.Variable.TheVariants as variables
 use Rattle.qed_terms.specs.Meaning as sense
 use Rattle.qed_terms.specs.Meaning.{Values, truth}
 use Rattle.qed_terms.specs.Tree.{Tree}
-use Rattle.acsl_truth.specs.States.{Value, number as c_number, pointer, block_of, offset_of}
-use Rattle.acsl_truth.specs.Truth.{value_at}
+use Rattle.c_runs.specs.TruthStates.{Value, number as c_number, pointer, block_of, offset_of}
+use Rattle.c_runs.specs.Truth.{value_at}
 use Rattle.c_runs.specs.Program.{Facts}
 use Rattle.c_runs.specs.Scopes.{is_content}
 use Rattle.c_runs.specs.Operators.{truth_number}
 use Rattle.c_runs.specs.Objects.{cell_of, address}
-use Rattle.core_runs.specs.Run.{CoreWorld}
+use Rattle.c_runs.specs.CoreRun.{CoreWorld}
 use Rattle.value_terms.specs.Readings.{Term, as_number, as_test, as_pointer, number_term, condition, term_at}
 use Rattle.value_terms.specs.Terms.{address_term}
 use Rattle.value_terms.specs.Typed.{operand_kind}

@@ -11,8 +11,8 @@ use Rattle.acsl_trees.specs.declared.heads.Label.TheVariants as label
 use Rattle.qed_terms.specs.Meaning as sense
 use Rattle.qed_terms.specs.Meaning.{Values, value}
 use Rattle.qed_terms.specs.Tree.{num}
-use Rattle.acsl_truth.specs.States as labelled
-use Rattle.acsl_truth.specs.States.{Value, number, pointer, is_negative, state_at}
+use Rattle.c_runs.specs.TruthStates as labelled
+use Rattle.c_runs.specs.TruthStates.{Value, number, pointer, is_negative, state_at}
 use Rattle.c_runs.specs.Program.{Variable, Facts}
 use Rattle.c_runs.specs.States.{global_home}
 use Rattle.c_runs.specs.Scopes.{is_content}

@@ -4,9 +4,9 @@ use Rattle.typed_prog.specs.Tree as t
 use Rattle.qed_terms.specs.Meaning as sense
 use Rattle.c_runs.specs.Program.{Contract, Loop, Program}
 use Rattle.c_runs.specs.States.{Here}
-use Rattle.core_runs.specs.Run.{CoreWorld}
-use Rattle.rte_checks.specs.Checks.{Check}
-use Rattle.core_checks.specs.Tree.{Goal, call, repeat, Steps}
+use Rattle.c_runs.specs.CoreRun.{CoreWorld}
+use Rattle.c_runs.specs.Checks.{Check}
+use Rattle.c_runs.specs.Tree.{Goal, call, repeat, Steps}
 use Rattle.goal_segments.specs.Segments.{Seg, AllSeg}
 use Rattle.memory_steps.specs.State.{State}
 use Rattle.memory_steps.specs.Step.{Step, places}

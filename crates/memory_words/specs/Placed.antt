@@ -4,7 +4,7 @@ use Rattle.std.specs.List.{list_all}
 use Rattle.wp_base.specs.declared.kinds.CellKind.{CellKind}
 use Rattle.wp_base.specs.Blocks.{Table, count, has_layout}
 use Rattle.acsl_trees.specs.Tree as acsl
-use Rattle.acsl_truth.specs.States as labelled
+use Rattle.c_runs.specs.TruthStates as labelled
 use Rattle.typed_prog.specs.declared.operators.Variable.TheVariants as variables
 use Rattle.qed_terms.specs.Meaning as sense
 use Rattle.qed_terms.specs.Meaning.{truth, value}
@@ -14,12 +14,12 @@ use Rattle.c_runs.specs.Program.{Variable, Contract, Facts}
 use Rattle.c_runs.specs.States.{Memory, Here, Granted, global_home, with_memory}
 use Rattle.c_runs.specs.Claims.{Stop, measure_of, in_state, in_body, granted_in, parts_of, may_change, may_change_local, regions_of}
 use Rattle.c_runs.specs.Scopes.{ended_since}
-use Rattle.core_runs.specs.Run as run
-use Rattle.core_runs.specs.Run.{CoreWorld, Ending, in_world}
+use Rattle.c_runs.specs.CoreRun as run
+use Rattle.c_runs.specs.CoreRun.{CoreWorld, Ending, in_world}
 use Rattle.goal_segments.specs.Told.{IsGood}
 use Rattle.goal_segments.specs.Segments.{SameBlocks, IsResult}
 use Rattle.typed_memories.specs.Cells.{IsShaped}
-use Rattle.memory_changes.specs.Changes.{StillThere, LacksSince}
+use Rattle.typed_memories.specs.Changes.{StillThere, LacksSince}
 use Rattle.acsl_encode.specs.Meaning.{HasAddress}
 use Rattle.walk_steps.specs.State.{at_or}
 use Rattle.walk_steps.specs.Forms.{Place as CheckPlace}

@@ -14,16 +14,16 @@ use Rattle.qed_terms.specs.Tree.{Tree}
 use Rattle.c_runs.specs.Told.{Value}
 use Rattle.c_runs.specs.Program.{Variable, Contract, Claim, Facts, Program}
 use Rattle.c_runs.specs.States.{Local, plain, World, Here, with_local, with_memory, stored_in, global_home}
-use Rattle.acsl_truth.specs.Truth.{value_at}
+use Rattle.c_runs.specs.Truth.{value_at}
 use Rattle.c_runs.specs.Objects.{cell_of}
 use Rattle.c_runs.specs.Claims.{Stop}
 use Rattle.c_runs.specs.Scopes.{is_content}
-use Rattle.core_runs.specs.Run.{CoreWorld, Ending, stopped, in_world, with_temp}
-use Rattle.rte_checks.specs.Checks.{Check, checks_of}
-use Rattle.core_checks.specs.Tree as core
-use Rattle.core_checks.specs.Tree.{Steps}
-use Rattle.core_checks.specs.Run as exec
-use Rattle.segments.specs.Segments.{Asks}
+use Rattle.c_runs.specs.CoreRun.{CoreWorld, Ending, stopped, in_world, with_temp}
+use Rattle.c_runs.specs.Checks.{Check, checks_of}
+use Rattle.c_runs.specs.Tree as core
+use Rattle.c_runs.specs.Tree.{Steps}
+use Rattle.c_runs.specs.CheckedRun as exec
+use Rattle.goal_segments.specs.RunSegments.{Asks}
 use Rattle.goal_segments.specs.Segments as segs
 use Rattle.goal_segments.specs.Segments.{no_deeper, is_single}
 use Rattle.value_terms.specs.Readings.{Term, term_at}

@@ -4,7 +4,7 @@ use Rattle.wp_base.specs.declared.kinds.CellKind.{CellKind}
 use Rattle.wp_base.specs.declared.kinds.CellKind.TheVariants as cell
 use Rattle.typed_prog.specs.declared.operators.Variable.{Variable}
 use Rattle.qed_terms.specs.Meaning as sense
-use Rattle.acsl_truth.specs.States.{Value, nothing_of}
+use Rattle.c_runs.specs.TruthStates.{Value, nothing_of}
 use Rattle.c_runs.specs.States.{World, plain, with_local}
 use Rattle.goal_segments.specs.Told.{with_name}
 use Rattle.goal_segments.specs.Segments.{IsAny}

@@ -2,12 +2,12 @@
 use Rattle.std.specs.Prelude.{ℕ, List, [], ◌∷◌}
 use Rattle.wp_base.specs.Blocks.{Table}
 use Rattle.acsl_trees.specs.Tree as acsl
-use Rattle.acsl_truth.specs.States as labelled
-use Rattle.acsl_truth.specs.States.{Value}
+use Rattle.c_runs.specs.TruthStates as labelled
+use Rattle.c_runs.specs.TruthStates.{Value}
 use Rattle.qed_terms.specs.Meaning as sense
 use Rattle.c_runs.specs.Program.{Facts}
 use Rattle.c_runs.specs.States.{Memory, seen, seen_by_contract as contract_state}
-use Rattle.core_runs.specs.Run.{CoreWorld}
+use Rattle.c_runs.specs.CoreRun.{CoreWorld}
 use Rattle.value_terms.specs.Laws.{Stood}
 use Rattle.acsl_encode.specs.Meaning.{SeenStands, Stands}
 use Rattle.walk_steps.specs.State.{at_or}

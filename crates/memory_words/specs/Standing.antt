@@ -13,7 +13,7 @@ use Rattle.c_runs.specs.Program.{Variable, Facts}
 use Rattle.c_runs.specs.States.{Local, plain, home, unset, Memory, global_home}
 use Rattle.c_runs.specs.Entry.{leads_well}
 use Rattle.c_runs.specs.Scopes.{is_content}
-use Rattle.core_runs.specs.Run.{CoreWorld}
+use Rattle.c_runs.specs.CoreRun.{CoreWorld}
 use Rattle.goal_segments.specs.Told.{IsGood, IsFlag}
 use Rattle.goal_segments.specs.Segments.{SameBlocks}
 use Rattle.typed_memories.specs.Cells.{numbers_by, pointers_by, Reads}

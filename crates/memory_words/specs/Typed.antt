@@ -14,7 +14,7 @@ use Rattle.acsl_trees.specs.Tree as acsl
 use Rattle.acsl_trees.specs.declared.heads.Content.{Content}
 use Rattle.acsl_trees.specs.declared.heads.Content.TheVariants as content
 use Rattle.acsl_trees.specs.declared.heads.Head.TheVariants as head
-use Rattle.acsl_truth.specs.States as labelled
+use Rattle.c_runs.specs.TruthStates as labelled
 use Rattle.acsl_encode.specs.Readings as annotation
 use Rattle.acsl_encode.specs.Meaning.{HasAddress, Stands}
 use Rattle.qed_terms.specs.Meaning as sense
@@ -22,9 +22,9 @@ use Rattle.qed_terms.specs.Meaning.{value}
 use Rattle.c_runs.specs.Program.{Variable, Loop, Facts}
 use Rattle.c_runs.specs.Operators.{access}
 use Rattle.c_runs.specs.Objects.{is_plain_in, plain_root, cell_of, is_pointed}
-use Rattle.rte_checks.specs.Checks.{Check, checks_of, all_checks, index_checks, one_if}
-use Rattle.core_checks.specs.Tree as core
-use Rattle.core_checks.specs.Tree.{Goal}
+use Rattle.c_runs.specs.Checks.{Check, checks_of, all_checks, index_checks, one_if}
+use Rattle.c_runs.specs.Tree as core
+use Rattle.c_runs.specs.Tree.{Goal}
 use Rattle.goal_segments.specs.Told.{with_name, with_names}
 use Rattle.value_terms.specs.Readings.{Term, plain_global}
 use Rattle.value_terms.specs.Terms.{terms_of, address_term}

@@ -9,17 +9,17 @@ use Rattle.typed_prog.specs.declared.operators.Path.{Path}
 use Rattle.typed_prog.specs.Tree as t
 use Rattle.qed_terms.specs.Meaning as sense
 use Rattle.qed_terms.specs.Meaning.{truth}
-use Rattle.acsl_truth.specs.States.{block_of, offset_of}
-use Rattle.acsl_truth.specs.Truth.{value_at}
+use Rattle.c_runs.specs.TruthStates.{block_of, offset_of}
+use Rattle.c_runs.specs.Truth.{value_at}
 use Rattle.c_runs.specs.Told.{Value}
 use Rattle.c_runs.specs.Program.{Facts}
 use Rattle.c_runs.specs.States.{is_nonzero}
 use Rattle.c_runs.specs.Scopes.{is_content}
 use Rattle.c_runs.specs.Objects.{cell_of, address, is_pointed}
 use Rattle.c_runs.specs.Operators.{access}
-use Rattle.core_runs.specs.Run.{CoreWorld}
-use Rattle.rte_checks.specs.Checks.{Check, checks_of, all_checks, index_checks, one_if}
-use Rattle.rte_checks.specs.Tests.{total, totals, is_met}
+use Rattle.c_runs.specs.CoreRun.{CoreWorld}
+use Rattle.c_runs.specs.Checks.{Check, checks_of, all_checks, index_checks, one_if}
+use Rattle.c_runs.specs.Tests.{total, totals, is_met}
 use Rattle.value_terms.specs.Readings.{Term, condition, term_at}
 use Rattle.value_terms.specs.Terms.{term_of, terms_of, address_term}
 use Rattle.value_terms.specs.Words.{word_of, words, checks_in}

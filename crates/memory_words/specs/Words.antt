@@ -21,9 +21,9 @@ use Rattle.c_runs.specs.Program as program
 use Rattle.c_runs.specs.Program.{Contract, Loop, Facts}
 use Rattle.c_runs.specs.Objects.{plain_root, cell_of}
 use Rattle.c_runs.specs.Claims as broken
-use Rattle.rte_checks.specs.Checks as rte
-use Rattle.core_checks.specs.Tree as core
-use Rattle.core_checks.specs.Tree.{Goal}
+use Rattle.c_runs.specs.Checks as rte
+use Rattle.c_runs.specs.Tree as core
+use Rattle.c_runs.specs.Tree.{Goal}
 use Rattle.value_terms.specs.Readings.{Term, as_number, as_pointer, number_term, block_term, offset_term, condition, term_at, plain_global}
 use Rattle.value_terms.specs.Terms.{term_of, terms_of, address_term}
 use Rattle.value_terms.specs.Words.{Item, asked, known, word_of, words}

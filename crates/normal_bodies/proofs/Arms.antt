@@ -5,12 +5,12 @@ use Rattle.wp_base.specs.declared.memory.NoMemory.{NoMemory}
 use Rattle.typed_prog.specs.declared.tree.Value.{Value}
 use Rattle.typed_prog.specs.View.{view_value}
 use Rattle.c_runs.specs.Program as p
-use Rattle.core_runs.specs.Core as core
+use Rattle.c_runs.specs.Core as core
 use Rattle.core_trees.specs.declared.claims.Loop.{Loop}
 use Rattle.core_trees.specs.declared.statements.Core.{Core}
 use Rattle.core_trees.specs.View.{view_loop, view_cores}
-use Rattle.normal_stmts.specs.Plans.{Condition, jumps_, tests_, planned}
-use Rattle.normal_stmts.specs.Normal.{Did, stmt, stmts}
+use Rattle.c_runs.specs.Plans.{Condition, jumps_, tests_, planned}
+use Rattle.c_runs.specs.Normal.{Did, stmt, stmts}
 use Rattle.normal_plans.specs.Flow.{is_connective}
 use Rattle.normal_bodies.proofs.Conditions.{jumps_is}
 use Rattle.program_trees.specs.declared.stmts.Turns.{Turns}

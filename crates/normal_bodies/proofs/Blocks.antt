@@ -1,6 +1,6 @@
 -- Numbers of blocks from under more.
 use Rattle.std.proofs.Common.{◌≡◌, ℕ, zero, suc, ◌+◌, ap, sym, ◌∙◌, arith}
-use Rattle.normal_stmts.specs.Normal.{up}
+use Rattle.c_runs.specs.Normal.{up}
 
 up_sum : (k b : ℕ) → up k b ≡ b + k
 up_sum zero b = omega arith

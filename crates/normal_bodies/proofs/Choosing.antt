@@ -4,11 +4,11 @@ use Rattle.typed_prog.specs.declared.tree.Value.{Value}
 use Rattle.typed_prog.specs.Tree as t
 use Rattle.typed_prog.specs.View.{view_value}
 use Rattle.c_runs.specs.Program.{Stmt, choose, Variable}
-use Rattle.core_runs.specs.Core as core
+use Rattle.c_runs.specs.Core as core
 use Rattle.core_trees.specs.declared.statements.Core.{Core}
 use Rattle.core_trees.specs.View.{view_cores}
-use Rattle.normal_stmts.specs.Plans.{Made, Tests, Condition, jumps_, tests_, planned}
-use Rattle.normal_stmts.specs.Normal.{stmt, up}
+use Rattle.c_runs.specs.Plans.{Made, Tests, Condition, jumps_, tests_, planned}
+use Rattle.c_runs.specs.Normal.{stmt, up}
 use Rattle.normal_plans.specs.Flow.{is_connective}
 use Rattle.normal_bodies.proofs.Conditions.{jumps_is}
 use Rattle.normal_steps.specs.Into.{MadeInto, TestsInto, DidInto}

@@ -5,7 +5,7 @@ use Rattle.typed_prog.specs.declared.operators.Effect.{Effect}
 use Rattle.typed_prog.specs.declared.operators.Effect.TheVariants as effect
 use Rattle.typed_prog.specs.Tree as t
 use Rattle.c_runs.specs.Program.{Variable}
-use Rattle.normal_stmts.specs.Plans.{Made, effect_plan, planned}
+use Rattle.c_runs.specs.Plans.{Made, effect_plan, planned}
 use Rattle.normal_plans.specs.Flow.{is_connective}
 
 jumps_Effect : (xs : List Variable) (type : CoreType) (l : ℕ) (e : Effect) (es : t.Values) (first : ℕ → Made) → (effect_plan xs type l e es first).jumps ≡ false

@@ -9,12 +9,12 @@ use Rattle.typed_prog.proofs.Equations.{view_value_node-Constant}
 use Rattle.qed_terms.specs.Operators.{is_equal}
 use Rattle.c_runs.specs.Program as p
 use Rattle.c_runs.specs.Run.{is_case, is_default}
-use Rattle.core_runs.specs.Core.{Cores, end, join, one, branch, exit}
+use Rattle.c_runs.specs.Core.{Cores, end, join, one, branch, exit}
 use Rattle.core_trees.specs.declared.statements.Core.{Core as Code}
 use Rattle.core_trees.specs.declared.statements.Core.TheVariants as core
 use Rattle.core_trees.specs.View.{view_core, view_cores}
 use Rattle.core_trees.proofs.Equations.{view_core-Exit}
-use Rattle.normal_stmts.specs.Normal.{index_of, dispatch, label_test, label_test_by, truth_of}
+use Rattle.c_runs.specs.Normal.{index_of, dispatch, label_test, label_test_by, truth_of}
 use Rattle.program_trees.specs.declared.stmts.Stmt.{Stmt}
 use Rattle.program_trees.specs.View.{view_stmt, view_stmts}
 use Rattle.normal_bodies.specs.Sought.{case_number, test_by, test_of}

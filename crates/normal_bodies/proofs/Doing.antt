@@ -5,14 +5,14 @@ use Rattle.typed_prog.specs.declared.tree.Value.{Value}
 use Rattle.typed_prog.specs.Tree as t
 use Rattle.typed_prog.specs.View.{view_value}
 use Rattle.c_runs.specs.Program.{Stmts, Variable}
-use Rattle.core_runs.specs.Core as c
+use Rattle.c_runs.specs.Core as c
 use Rattle.core_trees.specs.declared.statements.Core.{Core}
 use Rattle.core_trees.specs.declared.statements.Core.TheVariants as core
 use Rattle.core_trees.specs.View.{view_core, view_cores}
 use Rattle.core_trees.proofs.Equations.{view_core-Give}
-use Rattle.normal_stmts.specs.Plans.{Made, kept, save, planned}
+use Rattle.c_runs.specs.Plans.{Made, kept, save, planned}
 use Rattle.program_trees.specs.View.{view_option}
-use Rattle.normal_stmts.specs.Normal.{given, loop_test, loop_step, is_settled, save_unless, dispatch}
+use Rattle.c_runs.specs.Normal.{given, loop_test, loop_step, is_settled, save_unless, dispatch}
 use Rattle.normal_steps.specs.Into.{MadeInto, TestsInto, DidInto}
 use Rattle.normal_steps.proofs.Joins.{join_end, join_twice}
 use Rattle.normal_bodies.specs.Parts.{alone, Begins, operand}

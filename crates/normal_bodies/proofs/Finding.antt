@@ -3,7 +3,7 @@ use Rattle.std.proofs.Common.{◌≡◌, ℕ, suc, ◌+◌, ◌<◌, ◌≤◌, 
 use Rattle.qed_terms.specs.Operators.{is_equal}
 use Rattle.c_runs.specs.Program as p
 use Rattle.c_runs.specs.Run.{is_case}
-use Rattle.normal_stmts.specs.Normal.{is_label, index_of}
+use Rattle.c_runs.specs.Normal.{is_label, index_of}
 use Rattle.program_trees.specs.declared.stmts.Stmt.{Stmt}
 use Rattle.program_trees.specs.View.{view_stmt, view_stmts}
 use Rattle.normal_bodies.specs.declared.labels.Groups.{Groups}

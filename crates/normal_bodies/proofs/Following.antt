@@ -1,10 +1,10 @@
 -- Statements one after the other.
 use Rattle.std.proofs.Common.{◌≡◌, ℕ, ◌+◌, ◌<◌, ◌≤◌, List, [], length, drop, get_or, sym, ap, ◌∙◌}
 use Rattle.c_runs.specs.Program.{Variable}
-use Rattle.core_runs.specs.Core.{Cores, join}
+use Rattle.c_runs.specs.Core.{Cores, join}
 use Rattle.core_trees.specs.declared.statements.Core.{Core}
 use Rattle.core_trees.specs.View.{view_cores}
-use Rattle.normal_stmts.specs.Normal.{Did, stmt, stmts}
+use Rattle.c_runs.specs.Normal.{Did, stmt, stmts}
 use Rattle.program_trees.specs.declared.stmts.Stmt.{Stmt}
 use Rattle.program_trees.specs.View.{view_stmt, view_stmts}
 use Rattle.normal_steps.specs.Into.{DidInto}

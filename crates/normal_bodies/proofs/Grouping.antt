@@ -2,10 +2,10 @@
 use Rattle.std.proofs.Common.{◌≡◌, ℕ, suc, ◌+◌, ◌-◌, ◌<◌, ◌≤◌, Bool, true, false, if◌then◌else◌, List, [], length, drop, get_or, refl, sym, ap, ◌∙◌, subst, arith}
 use Rattle.typed_prog.specs.Tree as t
 use Rattle.c_runs.specs.Program as p
-use Rattle.core_runs.specs.Core as core
+use Rattle.c_runs.specs.Core as core
 use Rattle.core_trees.specs.declared.statements.Core.{Core}
 use Rattle.core_trees.specs.View.{view_cores}
-use Rattle.normal_stmts.specs.Normal.{Did, stmt, groups, up, is_label, index_of, no_label, whole_switch, close, dispatch}
+use Rattle.c_runs.specs.Normal.{Did, stmt, groups, up, is_label, index_of, no_label, whole_switch, close, dispatch}
 use Rattle.program_trees.specs.declared.stmts.Stmt.{Stmt}
 use Rattle.program_trees.specs.View.{view_stmt, view_stmts}
 use Rattle.normal_steps.specs.Into.{DidInto}

@@ -2,10 +2,10 @@
 use Rattle.std.proofs.Common.{◌≡◌, ℕ, List, [], Option, ap, ◌∙◌, subst}
 use Rattle.typed_prog.specs.Tree as t
 use Rattle.c_runs.specs.Program.{Stmt, Loop, Variable}
-use Rattle.core_runs.specs.Core as c
+use Rattle.c_runs.specs.Core as c
 use Rattle.core_trees.specs.declared.statements.Core.{Core}
 use Rattle.core_trees.specs.View.{view_cores}
-use Rattle.normal_stmts.specs.Normal.{stmt, loop_test, loop_step}
+use Rattle.c_runs.specs.Normal.{stmt, loop_test, loop_step}
 use Rattle.normal_steps.specs.Into.{TestsInto, DidInto}
 use Rattle.normal_steps.proofs.Joins.{join_twice}
 use Rattle.normal_bodies.specs.Parts.{loop_of, loop_from, looped}

@@ -1,9 +1,9 @@
 -- The next temporary doesn't depend on the blocks that `break` and `continue` leave.
 use Rattle.std.proofs.Common.{◌≡◌, ℕ, suc, Bool, true, false, if◌then◌else◌, List, refl, ap, ◌∙◌}
 use Rattle.c_runs.specs.Program.{Stmt, evaluate, block, initial, choose, loop, switch, case_of, default, break, continue, return_of, assert, Stmts, stop, more, Variable}
-use Rattle.core_runs.specs.Core.{Cores, join}
-use Rattle.normal_stmts.specs.Plans.{planned, condition, next_of}
-use Rattle.normal_stmts.specs.Normal.{Did, stmt, stmts, groups, up, is_label, whole_switch, close, dispatch}
+use Rattle.c_runs.specs.Core.{Cores, join}
+use Rattle.c_runs.specs.Plans.{planned, condition, next_of}
+use Rattle.c_runs.specs.Normal.{Did, stmt, stmts, groups, up, is_label, whole_switch, close, dispatch}
 use Rattle.normal_bodies.specs.Parts.{operand}
 
 if_next : (b : Bool) (x y x' y' : Did) → x.next_temp ≡ x'.next_temp → y.next_temp ≡ y'.next_temp → (if b then x else y).next_temp ≡ (if b then x' else y').next_temp

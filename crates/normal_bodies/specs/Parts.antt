@@ -2,11 +2,11 @@
 use Rattle.std.specs.Prelude.{◌≡◌, ℕ, suc, Bool, true, false, if◌then◌else◌, List, Option}
 use Rattle.typed_prog.specs.Tree as t
 use Rattle.c_runs.specs.Program.{Stmt, Stmts, Loop, Variable}
-use Rattle.core_runs.specs.Core.{Core, Cores, then_, join, one, around, repeat, exit}
+use Rattle.c_runs.specs.Core.{Core, Cores, then_, join, one, around, repeat, exit}
 use Rattle.normal_bodies.specs.declared.labels.Place.{Place}
 use Rattle.normal_bodies.specs.Sought.{less}
-use Rattle.normal_stmts.specs.Plans.{Made, Tests, Condition, planned, next_of, fork}
-use Rattle.normal_stmts.specs.Normal.{Did, stmt, up, close, dispatch, is_label, is_settled, save_unless, loop_test, loop_step}
+use Rattle.c_runs.specs.Plans.{Made, Tests, Condition, planned, next_of, fork}
+use Rattle.c_runs.specs.Normal.{Did, stmt, up, close, dispatch, is_label, is_settled, save_unless, loop_test, loop_step}
 
 -- one statement
 abbrev pub alone : Core → ℕ → Did

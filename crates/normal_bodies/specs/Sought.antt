@@ -5,8 +5,8 @@ use Rattle.typed_prog.specs.declared.operators.Op.TheVariants as op
 use Rattle.typed_prog.specs.Tree as t
 use Rattle.c_runs.specs.Program.{Stmt, Stmts, case_of}
 use Rattle.c_runs.specs.Run.{is_case, is_default}
-use Rattle.core_runs.specs.Core.{Cores, end, one, branch, exit}
-use Rattle.normal_stmts.specs.Normal.{is_label, no_label, index_of, int_type, label_test}
+use Rattle.c_runs.specs.Core.{Cores, end, one, branch, exit}
+use Rattle.c_runs.specs.Normal.{is_label, no_label, index_of, int_type, label_test}
 use Rattle.normal_bodies.specs.declared.labels.Sought.{Sought}
 use Rattle.normal_bodies.specs.declared.labels.Sought.TheVariants as sought
 use Rattle.normal_bodies.specs.declared.labels.Groups.{Groups}

@@ -4,8 +4,8 @@ ghost use Rattle.c_runs.specs.Program.{loop as loop_of, switch};
 ghost use Rattle.core_trees.specs.View.{view_cores, view_loop, view_variables};
 ghost use Rattle.normal_bodies.specs.Parts as spec;
 ghost use Rattle.normal_steps.specs.Into.{DidInto};
-ghost use Rattle.normal_stmts.specs.Normal as normal;
-ghost use Rattle.normal_stmts.specs.Plans.{planned, jumps_, tests_};
+ghost use Rattle.c_runs.specs.Normal as normal;
+ghost use Rattle.c_runs.specs.Plans.{planned, jumps_, tests_};
 ghost use Rattle.program_trees.specs.View.{view_option, view_stmt, view_stmts};
 ghost use Rattle.typed_prog.specs.View.{view_value};
 

@@ -1,9 +1,9 @@
 // What leads to the labels of a switch: a test for each of them (C11 6.8.4.2).
 ghost use Rattle.std.specs.Prelude.{◌≡◌, [], ◌∷◌, IfOk, OnOk};
-ghost use Rattle.core_runs.specs.Core.{join, one, branch, exit, end};
+ghost use Rattle.c_runs.specs.Core.{join, one, branch, exit, end};
 ghost use Rattle.core_trees.specs.View.{view_cores};
 ghost use Rattle.normal_bodies.specs.Sought as spec;
-ghost use Rattle.normal_stmts.specs.Normal as normal;
+ghost use Rattle.c_runs.specs.Normal as normal;
 ghost use Rattle.program_trees.specs.View.{view_stmt, view_stmts};
 ghost use Rattle.typed_prog.specs.Tree as t;
 ghost use Rattle.typed_prog.specs.View.{view_value};

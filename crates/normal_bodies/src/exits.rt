@@ -1,6 +1,6 @@
 // Where `break` and `continue` go: numbers of the core blocks that they leave (C11 6.8.6).
 ghost use Rattle.std.specs.Prelude.{◌≡◌, IfOk, suc};
-ghost use Rattle.normal_stmts.specs.Normal.{up};
+ghost use Rattle.c_runs.specs.Normal.{up};
 
 use wp_base::NoMemory;
 

@@ -2,7 +2,7 @@
 ghost use Rattle.std.specs.Prelude.{◌≡◌, IfOk, true, false};
 ghost use Rattle.normal_bodies.specs.Sought as spec;
 ghost use Rattle.c_runs.specs.Run.{is_default};
-ghost use Rattle.normal_stmts.specs.Normal as normal;
+ghost use Rattle.c_runs.specs.Normal as normal;
 ghost use Rattle.program_trees.specs.View.{view_stmt, view_stmts};
 ghost use Rattle.qed_terms.specs.Operators.{is_equal};
 

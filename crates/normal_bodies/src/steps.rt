@@ -1,11 +1,11 @@
 // Single statements, pushed behind those that are there.
 ghost use Rattle.std.specs.Prelude.{◌≡◌, [], IfOk};
-ghost use Rattle.core_runs.specs.Core.{join, one, around, branch, exit, claim as claim_of, scope};
+ghost use Rattle.c_runs.specs.Core.{join, one, around, branch, exit, claim as claim_of, scope};
 ghost use Rattle.core_trees.specs.View.{view_claim, view_cores, view_loop, view_variables};
 ghost use Rattle.normal_bodies.specs.Parts as spec;
 ghost use Rattle.normal_steps.specs.Into.{DidInto, MadeInto, TestsInto};
-ghost use Rattle.normal_stmts.specs.Normal as normal;
-ghost use Rattle.normal_stmts.specs.Plans as plans;
+ghost use Rattle.c_runs.specs.Normal as normal;
+ghost use Rattle.c_runs.specs.Plans as plans;
 ghost use Rattle.program_trees.specs.View.{view_option, view_stmts};
 ghost use Rattle.typed_prog.specs.View.{view_value};
 

@@ -12,10 +12,10 @@ use Rattle.typed_prog.specs.Tree as t
 use Rattle.typed_prog.specs.View.{view_value}
 use Rattle.c_runs.specs.Program.{Variable}
 use Rattle.c_runs.specs.Run.{updating}
-use Rattle.core_runs.specs.Core as c
+use Rattle.c_runs.specs.Core as c
 use Rattle.core_trees.specs.declared.statements.Core.{Core}
 use Rattle.core_trees.specs.View.{view_cores}
-use Rattle.normal_stmts.specs.Plans.{Made, Sent, kept, after, save, pure, pures, put_before, assigned_made, update_made, effect_plan}
+use Rattle.c_runs.specs.Plans.{Made, Sent, kept, after, save, pure, pures, put_before, assigned_made, update_made, effect_plan}
 use Rattle.normal_steps.specs.declared.puts.Put.{Put}
 use Rattle.normal_steps.specs.Into.{MadeInto, SentInto}
 use Rattle.normal_steps.proofs.Joins.{join_assoc, join_twice}

@@ -3,10 +3,10 @@ use Rattle.std.proofs.Common.{◌≡◌, ℕ, suc, List, ap, ◌∙◌}
 use Rattle.typed_prog.specs.declared.types.CoreType.{CoreType}
 use Rattle.typed_prog.specs.declared.tree.Value.{Value}
 use Rattle.typed_prog.specs.View.{view_value}
-use Rattle.core_runs.specs.Core as c
+use Rattle.c_runs.specs.Core as c
 use Rattle.core_trees.specs.declared.statements.Core.{Core}
 use Rattle.core_trees.specs.View.{view_cores}
-use Rattle.normal_stmts.specs.Plans.{Mades, Sent, called_sent, sent_value, temp_of}
+use Rattle.c_runs.specs.Plans.{Mades, Sent, called_sent, sent_value, temp_of}
 use Rattle.normal_steps.specs.declared.puts.Put.{Put}
 use Rattle.normal_steps.specs.declared.puts.Put.TheVariants as put
 use Rattle.normal_steps.specs.Into.{MadeInto, MadesInto, SentInto, view_put}

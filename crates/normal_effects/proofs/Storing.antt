@@ -9,10 +9,10 @@ use Rattle.typed_prog.specs.View.{view_value, view_values}
 use Rattle.c_runs.specs.Program.{Variable}
 use Rattle.c_runs.specs.Effects.{changed}
 use Rattle.c_runs.specs.Run.{old_value, first_operand, other_operands}
-use Rattle.core_runs.specs.Core as c
+use Rattle.c_runs.specs.Core as c
 use Rattle.core_trees.specs.declared.statements.Core.{Core}
 use Rattle.core_trees.specs.View.{view_cores}
-use Rattle.normal_stmts.specs.Plans.{Made, kept, save, save_if, need, pure, pures, put_before, no_value, stored_made, assigned_made, changed_made, postfix_made}
+use Rattle.c_runs.specs.Plans.{Made, kept, save, save_if, need, pure, pures, put_before, no_value, stored_made, assigned_made, changed_made, postfix_made}
 use Rattle.normal_steps.specs.Into.{MadeInto, MadesInto, DidInto}
 use Rattle.normal_steps.proofs.Joins.{join_end, join_assoc, join_twice}
 use Rattle.normal_values.proofs.Operands.{save_after}

@@ -4,9 +4,9 @@ use Rattle.typed_prog.specs.declared.types.CoreType.{CoreType}
 use Rattle.typed_prog.specs.declared.operators.Path.{Path}
 use Rattle.typed_prog.specs.Tree as t
 use Rattle.c_runs.specs.Program.{Variable}
-use Rattle.core_runs.specs.Core.{store, join, one}
-use Rattle.normal_stmts.specs.Plans.{pures}
-use Rattle.normal_stmts.specs.Normal.{Did}
+use Rattle.c_runs.specs.Core.{store, join, one}
+use Rattle.c_runs.specs.Plans.{pures}
+use Rattle.c_runs.specs.Normal.{Did}
 
 -- behind what the operands of its way become, in which the effect is done and left the value d
 abbrev pub stored_behind : List Variable → CoreType → (line : ℕ) → Path → (value d : t.Value) → t.Values → ℕ → Did

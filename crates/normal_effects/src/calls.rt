@@ -1,9 +1,9 @@
 // Calls in an expression.
 ghost use Rattle.std.specs.Prelude.{◌≡◌, IfOk, suc};
-ghost use Rattle.core_runs.specs.Core as core;
+ghost use Rattle.c_runs.specs.Core as core;
 ghost use Rattle.core_trees.specs.View.{view_cores, view_variables};
 ghost use Rattle.normal_steps.specs.Into.{SentInto, view_put};
-ghost use Rattle.normal_stmts.specs.Plans as plans;
+ghost use Rattle.c_runs.specs.Plans as plans;
 ghost use Rattle.typed_prog.specs.Tree.{values_of};
 ghost use Rattle.typed_prog.specs.View.{view_value, view_values};
 

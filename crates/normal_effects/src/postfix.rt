@@ -3,7 +3,7 @@ ghost use Rattle.std.specs.Prelude.{◌≡◌, IfOk};
 ghost use Rattle.c_runs.specs.Run as run;
 ghost use Rattle.core_trees.specs.View.{view_variables};
 ghost use Rattle.normal_steps.specs.Into.{MadeInto};
-ghost use Rattle.normal_stmts.specs.Plans as plans;
+ghost use Rattle.c_runs.specs.Plans as plans;
 ghost use Rattle.typed_prog.specs.Tree.{values_of};
 ghost use Rattle.typed_prog.specs.View.{view_value, view_values};
 

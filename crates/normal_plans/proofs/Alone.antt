@@ -8,15 +8,15 @@ use Rattle.typed_prog.specs.Tree as t
 use Rattle.typed_prog.specs.View.{view_value, view_values}
 use Rattle.c_runs.specs.Program.{Variable}
 use Rattle.c_runs.specs.Values.{have_effect}
-use Rattle.core_runs.specs.Core as c
+use Rattle.c_runs.specs.Core as c
 use Rattle.core_trees.specs.declared.statements.Core.{Core}
 use Rattle.core_trees.specs.declared.statements.Core.TheVariants as core
 use Rattle.core_trees.specs.declared.statements.Target.{Target}
 use Rattle.core_trees.specs.declared.statements.Target.TheVariants as target
 use Rattle.core_trees.proofs.Equations.{view_core-Call, view_core-Start}
 use Rattle.core_trees.specs.View.{view_core, view_cores, view_target}
-use Rattle.normal_stmts.specs.Plans.{Made, Mades, kept, save, no_value, need, pures, operands, first_plan, planned}
-use Rattle.normal_stmts.specs.Normal.{Did, is_temp, dropped, called_into, plain_store, called_to, stored, started}
+use Rattle.c_runs.specs.Plans.{Made, Mades, kept, save, no_value, need, pures, operands, first_plan, planned}
+use Rattle.c_runs.specs.Normal.{Did, is_temp, dropped, called_into, plain_store, called_to, stored, started}
 use Rattle.normal_steps.specs.Into.{MadeInto, MadesInto, DidInto}
 use Rattle.normal_steps.proofs.Joins.{join_twice}
 use Rattle.normal_plans.specs.Calls.{call_in, starting}

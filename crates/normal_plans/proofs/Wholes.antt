@@ -14,7 +14,7 @@ use Rattle.core_trees.specs.declared.statements.Core.{Core}
 use Rattle.core_trees.specs.View.{view_cores}
 use Rattle.c_runs.specs.Program.{Variable}
 use Rattle.c_runs.specs.Values.{has_effect}
-use Rattle.normal_stmts.specs.Plans.{Made, Plan, pure, kept, no_value, whole_made, plans, planned, node_plans, first_plan, made_if, effect_plan, choice_made, jumps_, tests_}
+use Rattle.c_runs.specs.Plans.{Made, Plan, pure, kept, no_value, whole_made, plans, planned, node_plans, first_plan, made_if, effect_plan, choice_made, jumps_, tests_}
 use Rattle.normal_steps.specs.Into.{MadeInto, choice_from}
 use Rattle.normal_steps.proofs.Joins.{join_end}
 use Rattle.normal_steps.proofs.Ways as ways

@@ -2,9 +2,9 @@
 use Rattle.std.specs.Prelude.{ℕ, Option, Some, None}
 use Rattle.typed_prog.specs.declared.operators.Effect.TheVariants as effect
 use Rattle.typed_prog.specs.Tree as t
-use Rattle.core_runs.specs.Core.{start, join, one}
-use Rattle.normal_stmts.specs.Plans.{Made}
-use Rattle.normal_stmts.specs.Normal.{Did}
+use Rattle.c_runs.specs.Core.{start, join, one}
+use Rattle.c_runs.specs.Plans.{Made}
+use Rattle.c_runs.specs.Normal.{Did}
 
 abbrev pub call_node : t.ValueNode → Option (ℕ × t.Values)
 call_node (t.effect (effect.Call f) es) = Some (f, es)

@@ -1,10 +1,10 @@
 // Statements on operands, behind what comes first in these.
 ghost use Rattle.std.specs.Prelude.{◌≡◌, IfOk};
-ghost use Rattle.core_runs.specs.Core as core;
+ghost use Rattle.c_runs.specs.Core as core;
 ghost use Rattle.core_trees.specs.View.{view_target, view_variables};
 ghost use Rattle.normal_steps.specs.Into.{DidInto, MadesInto};
-ghost use Rattle.normal_stmts.specs.Normal as normal;
-ghost use Rattle.normal_stmts.specs.Plans as plans;
+ghost use Rattle.c_runs.specs.Normal as normal;
+ghost use Rattle.c_runs.specs.Plans as plans;
 ghost use Rattle.typed_prog.specs.Tree.{values_of};
 ghost use Rattle.typed_prog.specs.View.{view_values};
 

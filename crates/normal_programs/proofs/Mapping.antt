@@ -3,8 +3,8 @@ use Rattle.std.proofs.Common.{◌≡◌, ℕ, zero, suc, ◌+◌, ◌<◌, ◌�
 use Rattle.std.specs.Option.{option_map}
 use Rattle.std.proofs.lemmas.List.{at_drop_more, at_drop_all, map_push}
 use Rattle.c_runs.specs.Program as p
-use Rattle.core_runs.specs.Core.{Cores}
-use Rattle.normal_stmts.specs.Normal.{normal, normal_function}
+use Rattle.c_runs.specs.Core.{Cores}
+use Rattle.c_runs.specs.Normal.{normal, normal_function}
 use Rattle.program_trees.specs.declared.files.Function.{Function}
 use Rattle.program_trees.specs.declared.files.Program.{Program}
 use Rattle.program_trees.specs.declared.files.CoreFunction.{CoreFunction}

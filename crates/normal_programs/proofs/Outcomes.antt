@@ -2,12 +2,12 @@
 use Rattle.std.proofs.Common.{◌≡◌, ℕ, true, Option, Some, None, sym, ap, ◌∙◌}
 use Rattle.std.specs.Option.{option_map}
 use Rattle.c_runs.specs.Program as p
-use Rattle.core_runs.specs.Core.{Cores}
-use Rattle.core_runs.specs.Run as core
-use Rattle.normal_stmts.specs.Normal.{normal_function}
-use Rattle.normal_stmts.specs.Laws.{are_core}
-use Rattle.normal_stmts.proofs.Outcomes.{same_outcome}
-use Rattle.normal_stmts.proofs.Pureness.{all_core}
+use Rattle.c_runs.specs.Core.{Cores}
+use Rattle.c_runs.specs.CoreRun as core
+use Rattle.c_runs.specs.Normal.{normal_function}
+use Rattle.c_runs.specs.NormalLaws.{are_core}
+use Rattle.c_runs.proofs.Outcomes.{same_outcome}
+use Rattle.c_runs.proofs.Pureness.{all_core}
 use Rattle.program_trees.specs.View.{view_program}
 use Rattle.normal_programs.specs.Laws.{CoreRunsAsSpelled}
 

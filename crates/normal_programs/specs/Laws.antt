@@ -1,13 +1,13 @@
 -- What is so of the core program of a program, in memory.
 use Rattle.std.specs.Prelude.{◌≡◌, ℕ, true, List, Some}
-use Rattle.acsl_truth.specs.States.{Value}
+use Rattle.c_runs.specs.TruthStates.{Value}
 use Rattle.c_runs.specs.Program as p
 use Rattle.c_runs.specs.States.{Memory}
 use Rattle.c_runs.specs.Run as spelled
-use Rattle.core_runs.specs.Core.{Cores}
-use Rattle.core_runs.specs.Run as core
-use Rattle.normal_stmts.specs.Laws.{are_core}
-use Rattle.normal_stmts.specs.Normal.{normal}
+use Rattle.c_runs.specs.Core.{Cores}
+use Rattle.c_runs.specs.CoreRun as core
+use Rattle.c_runs.specs.NormalLaws.{are_core}
+use Rattle.c_runs.specs.Normal.{normal}
 use Rattle.program_trees.specs.declared.files.Program.{Program}
 use Rattle.program_trees.specs.declared.files.CoreProgram.{CoreProgram}
 use Rattle.program_trees.specs.View.{view_program, view_core_program}

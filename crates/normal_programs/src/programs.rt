@@ -1,7 +1,7 @@
 // Programs (C11 6.9).
 ghost use Rattle.std.specs.Prelude.{◌≡◌, IfOk, map};
 ghost use Rattle.std.specs.Option.{option_map};
-ghost use Rattle.normal_stmts.specs.Normal as spec;
+ghost use Rattle.c_runs.specs.Normal as spec;
 ghost use Rattle.program_trees.specs.View.{view_core_function, view_core_program, view_function, view_program};
 
 use normal_bodies::normalise_body;

@@ -6,13 +6,13 @@ use Rattle.typed_prog.specs.declared.types.CoreType.{CoreType}
 use Rattle.typed_prog.specs.declared.operators.Connective.{Connective}
 use Rattle.typed_prog.specs.declared.tree.Value.{Value}
 use Rattle.typed_prog.specs.View.{view_value}
-use Rattle.core_runs.specs.Core as c
+use Rattle.c_runs.specs.Core as c
 use Rattle.core_trees.specs.declared.statements.Core.{Core}
 use Rattle.core_trees.specs.declared.statements.Core.TheVariants as core
 use Rattle.core_trees.proofs.Equations.{view_core-Around}
 use Rattle.core_trees.specs.View.{view_core, view_cores}
 use Rattle.c_runs.specs.Values.{decides, agree}
-use Rattle.normal_stmts.specs.Plans.{Made, Tests, Plan, jump, leaf, flag, logic_test}
+use Rattle.c_runs.specs.Plans.{Made, Tests, Plan, jump, leaf, flag, logic_test}
 use Rattle.normal_steps.specs.Into.{MadeInto, TestsInto}
 use Rattle.normal_steps.proofs.Joins.{join_twice}
 

@@ -3,12 +3,12 @@ use Rattle.std.proofs.Common.{◌≡◌, ℕ, suc, pos, List, [], ap, ◌∙◌}
 use Rattle.typed_prog.specs.declared.types.CoreType.{CoreType}
 use Rattle.typed_prog.specs.declared.tree.Value.{Value}
 use Rattle.typed_prog.specs.View.{view_value}
-use Rattle.core_runs.specs.Core as c
+use Rattle.c_runs.specs.Core as c
 use Rattle.core_trees.specs.declared.statements.Core.{Core}
 use Rattle.core_trees.specs.declared.statements.Core.TheVariants as core
 use Rattle.core_trees.proofs.Equations.{view_core-Exit, view_core-Around, view_core-Branch}
 use Rattle.core_trees.specs.View.{view_core, view_cores}
-use Rattle.normal_stmts.specs.Plans.{flag, constant_of, temp_of}
+use Rattle.c_runs.specs.Plans.{flag, constant_of, temp_of}
 use Rattle.normal_steps.specs.Into.{MadeInto}
 use Rattle.normal_steps.proofs.Joins.{join_twice}
 

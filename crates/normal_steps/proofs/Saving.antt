@@ -2,12 +2,12 @@
 use Rattle.std.proofs.Common.{◌≡◌, ℕ, suc, Bool, true, false, ◌&&◌, List, refl, sym, ap, ◌∙◌}
 use Rattle.typed_prog.specs.declared.tree.Value.{Value}
 use Rattle.typed_prog.specs.View.{view_value}
-use Rattle.core_runs.specs.Core as c
+use Rattle.c_runs.specs.Core as c
 use Rattle.core_trees.specs.declared.statements.Core.{Core}
 use Rattle.core_trees.specs.View.{view_cores}
 use Rattle.c_runs.specs.Program.{Variable}
-use Rattle.rte_checks.specs.Checks.{has_checks}
-use Rattle.normal_stmts.specs.Plans.{kept, save, save_if, temp_for}
+use Rattle.c_runs.specs.Checks.{has_checks}
+use Rattle.c_runs.specs.Plans.{kept, save, save_if, temp_for}
 use Rattle.normal_steps.specs.Into.{MadeInto}
 use Rattle.normal_steps.proofs.Joins.{join_end}
 

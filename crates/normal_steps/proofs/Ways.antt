@@ -3,12 +3,12 @@ use Rattle.std.proofs.Common.{◌≡◌, ℕ, suc, true, false, if◌then◌else
 use Rattle.typed_prog.specs.declared.types.CoreType.{CoreType}
 use Rattle.typed_prog.specs.declared.tree.Value.{Value}
 use Rattle.typed_prog.specs.View.{view_value}
-use Rattle.core_runs.specs.Core as c
+use Rattle.c_runs.specs.Core as c
 use Rattle.core_trees.specs.declared.statements.Core.{Core}
 use Rattle.core_trees.specs.declared.statements.Core.TheVariants as core
 use Rattle.core_trees.proofs.Equations.{view_core-Exit, view_core-Around, view_core-Branch}
 use Rattle.core_trees.specs.View.{view_core, view_cores}
-use Rattle.normal_stmts.specs.Plans.{Made, Tests, Sent, Plan, jumps_, tests_, choice_made, temp_of, into}
+use Rattle.c_runs.specs.Plans.{Made, Tests, Sent, Plan, jumps_, tests_, choice_made, temp_of, into}
 use Rattle.normal_steps.specs.declared.puts.Put.{Put}
 use Rattle.normal_steps.specs.Into.{MadeInto, TestsInto, SentInto, view_put, choice_from}
 use Rattle.normal_steps.proofs.Joins.{join_assoc, join_twice}

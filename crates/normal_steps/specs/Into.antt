@@ -4,11 +4,11 @@ use Rattle.typed_prog.specs.declared.types.CoreType.{CoreType}
 use Rattle.typed_prog.specs.declared.tree.Value.{Value}
 use Rattle.typed_prog.specs.Tree.{values_of}
 use Rattle.typed_prog.specs.View.{view_value, view_values}
-use Rattle.core_runs.specs.Core as c
+use Rattle.c_runs.specs.Core as c
 use Rattle.core_trees.specs.declared.statements.Core.{Core}
 use Rattle.core_trees.specs.View.{view_cores}
-use Rattle.normal_stmts.specs.Plans.{Made, Mades, Tests, Sent, Plan, Condition, temp_of, next_of, fork, into}
-use Rattle.normal_stmts.specs.Normal.{Did}
+use Rattle.c_runs.specs.Plans.{Made, Mades, Tests, Sent, Plan, Condition, temp_of, next_of, fork, into}
+use Rattle.c_runs.specs.Normal.{Did}
 use Rattle.normal_steps.specs.declared.puts.Put.{Put}
 use Rattle.normal_steps.specs.declared.puts.Put.TheVariants as put
 

@@ -1,8 +1,8 @@
 // The two ways of a choice, each of which puts its value into one temporary.
 ghost use Rattle.std.specs.Prelude.{◌≡◌, IfOk, suc};
-ghost use Rattle.core_runs.specs.Core as core;
+ghost use Rattle.c_runs.specs.Core as core;
 ghost use Rattle.core_trees.specs.View.{view_cores};
-ghost use Rattle.normal_stmts.specs.Plans as plans;
+ghost use Rattle.c_runs.specs.Plans as plans;
 ghost use Rattle.normal_steps.specs.Into.{view_put};
 ghost use Rattle.typed_prog.specs.View.{view_value};
 

@@ -1,6 +1,6 @@
 // Statements that are pushed behind others.
 ghost use Rattle.std.specs.Prelude.{◌≡◌, IfOk, suc};
-ghost use Rattle.core_runs.specs.Core as core;
+ghost use Rattle.c_runs.specs.Core as core;
 ghost use Rattle.core_trees.specs.View.{view_core, view_cores};
 ghost use Rattle.typed_prog.specs.View.{view_value};
 

@@ -1,6 +1,6 @@
 // Values on their way to a temporary.
 ghost use Rattle.std.specs.Prelude.{◌≡◌, IfOk};
-ghost use Rattle.core_runs.specs.Core as core;
+ghost use Rattle.c_runs.specs.Core as core;
 ghost use Rattle.core_trees.specs.View.{view_cores};
 ghost use Rattle.normal_steps.specs.Into.{view_put};
 

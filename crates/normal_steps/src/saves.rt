@@ -1,7 +1,7 @@
 // Values that go to temporaries.
 ghost use Rattle.std.specs.Prelude.{◌≡◌, IfOk, suc};
 ghost use Rattle.core_trees.specs.View.{view_cores, view_variables};
-ghost use Rattle.normal_stmts.specs.Plans as plans;
+ghost use Rattle.c_runs.specs.Plans as plans;
 ghost use Rattle.normal_steps.specs.Into.{MadeInto};
 ghost use Rattle.typed_prog.specs.View.{view_value};
 

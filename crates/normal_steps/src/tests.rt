@@ -1,8 +1,8 @@
 // Conditions: jumps, and flags that they set.
 ghost use Rattle.std.specs.Prelude.{◌≡◌, IfOk};
-ghost use Rattle.core_runs.specs.Core as core;
+ghost use Rattle.c_runs.specs.Core as core;
 ghost use Rattle.core_trees.specs.View.{view_cores};
-ghost use Rattle.normal_stmts.specs.Plans as plans;
+ghost use Rattle.c_runs.specs.Plans as plans;
 ghost use Rattle.normal_steps.specs.Into.{MadeInto};
 ghost use Rattle.typed_prog.specs.View.{view_value};
 

@@ -4,12 +4,12 @@ use Rattle.std.proofs.lemmas.List.{at_drop_more, at_drop_all}
 use Rattle.typed_prog.specs.declared.tree.Value.{Value}
 use Rattle.typed_prog.specs.Tree as t
 use Rattle.typed_prog.specs.View.{view_value, view_values}
-use Rattle.core_runs.specs.Core as c
+use Rattle.c_runs.specs.Core as c
 use Rattle.core_trees.specs.declared.statements.Core.{Core}
 use Rattle.core_trees.specs.View.{view_cores}
 use Rattle.c_runs.specs.Program.{Variable}
-use Rattle.rte_checks.specs.Checks.{has_checks}
-use Rattle.normal_stmts.specs.Plans.{Made, Mades, kept, save, save_if, need, pure, pures}
+use Rattle.c_runs.specs.Checks.{has_checks}
+use Rattle.c_runs.specs.Plans.{Made, Mades, kept, save, save_if, need, pure, pures}
 use Rattle.normal_steps.specs.Into.{MadeInto, MadesInto}
 use Rattle.normal_steps.proofs.Joins.{join_end, join_assoc, join_twice}
 

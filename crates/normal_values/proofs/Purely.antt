@@ -7,11 +7,11 @@ use Rattle.typed_prog.specs.declared.tree.ValueNode.TheVariants as node
 use Rattle.typed_prog.proofs.Equations.{view_value_node-Apply}
 use Rattle.typed_prog.specs.Tree as t
 use Rattle.typed_prog.specs.View.{view_value}
-use Rattle.core_runs.specs.Core as c
+use Rattle.c_runs.specs.Core as c
 use Rattle.core_trees.specs.declared.statements.Core.{Core}
 use Rattle.c_runs.specs.Program.{Variable}
 use Rattle.c_runs.specs.Values.{has_effect}
-use Rattle.normal_stmts.specs.Plans.{Made, Mades, Plan, pure, pure_node, jumps_, tests_, choice_made, sent_made, kept, leafy, logic_plan}
+use Rattle.c_runs.specs.Plans.{Made, Mades, Plan, pure, pure_node, jumps_, tests_, choice_made, sent_made, kept, leafy, logic_plan}
 use Rattle.normal_steps.specs.declared.puts.Put.TheVariants as put
 use Rattle.normal_steps.specs.Into.{MadeInto, MadesInto, SentInto, choice_from}
 use Rattle.normal_steps.proofs.Ways as ways

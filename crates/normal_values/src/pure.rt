@@ -1,7 +1,7 @@
 // An expression whose effect is done and left a value. What comes of it is pushed, and what is left of it is answered with the next temporary.
 ghost use Rattle.std.specs.Prelude.{◌≡◌, true, IfOk};
 ghost use Rattle.core_trees.specs.View.{view_variables};
-ghost use Rattle.normal_stmts.specs.Plans as plans;
+ghost use Rattle.c_runs.specs.Plans as plans;
 ghost use Rattle.normal_steps.specs.Into.{choice_from, MadeInto, MadesInto, TestsInto};
 ghost use Rattle.typed_prog.specs.Tree.{values_of};
 ghost use Rattle.typed_prog.specs.declared.tree.ValueNode.TheVariants as node;

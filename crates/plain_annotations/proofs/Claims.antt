@@ -7,8 +7,8 @@ use Rattle.wp_base.specs.declared.kinds.CellKind.{CellKind}
 use Rattle.typed_prog.specs.declared.operators.Variable.{Variable}
 use Rattle.typed_prog.specs.declared.operators.Variable.TheVariants as variables
 use Rattle.acsl_trees.specs.Tree as acsl
-use Rattle.acsl_truth.specs.States.{is_negative, number}
-use Rattle.acsl_truth.specs.States as labelled
+use Rattle.c_runs.specs.TruthStates.{is_negative, number}
+use Rattle.c_runs.specs.TruthStates as labelled
 use Rattle.qed_terms.specs.Meaning as sense
 use Rattle.c_runs.specs.Program.{Facts}
 use Rattle.plain_states.specs.Slots.{State, at, result_slot}

@@ -9,7 +9,7 @@ use Rattle.acsl_trees.specs.declared.heads.Label.{Label}
 use Rattle.acsl_trees.specs.declared.heads.Label.TheVariants as label
 use Rattle.acsl_trees.specs.declared.heads.Head.TheVariants as h
 use Rattle.acsl_trees.specs.Tree.{Trees, node, stop, more}
-use Rattle.acsl_truth.specs.Truth.{heads_of}
+use Rattle.c_runs.specs.Truth.{heads_of}
 use Rattle.qed_terms.specs.Tree.{Tree as Term, ite}
 use Rattle.acsl_encode.specs.Readings.{Named, one, two, Called, Terms, integer, truth, address, variable, elements, region, nothing}
 use Rattle.acsl_encode.specs.Readings.{Slot, whole, any_integer, pointer, home, absent, Seen, Reading, moved_to, seen_in, seen_at}

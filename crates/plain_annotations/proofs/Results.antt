@@ -8,7 +8,7 @@ use Rattle.acsl_trees.specs.declared.heads.Label.TheVariants as label
 use Rattle.acsl_trees.specs.declared.heads.Head.{Head}
 use Rattle.acsl_trees.specs.declared.heads.Head.TheVariants as h
 use Rattle.acsl_trees.specs.Tree.{Tree, Trees, node, stop, more}
-use Rattle.acsl_truth.specs.Truth.{heads_of}
+use Rattle.c_runs.specs.Truth.{heads_of}
 use Rattle.acsl_expand.specs.Expansion.{binds, around_kid}
 use Rattle.qed_terms.specs.Tree.{var}
 use Rattle.qed_terms.specs.declared.head.Head.TheVariants as th

@@ -8,8 +8,8 @@ use Rattle.typed_prog.specs.declared.operators.Variable.{Variable}
 use Rattle.typed_prog.specs.declared.operators.Variable.TheVariants as variables
 use Rattle.acsl_trees.specs.Tree as acsl
 use Rattle.acsl_expand.specs.Expansion.{Definition, definition_at}
-use Rattle.acsl_truth.specs.States.{State, World, is_negative}
-use Rattle.acsl_truth.specs.Truth.{calls_of}
+use Rattle.c_runs.specs.TruthStates.{State, World, is_negative}
+use Rattle.c_runs.specs.Truth.{calls_of}
 use Rattle.qed_terms.specs.Names.{is_name}
 use Rattle.qed_terms.specs.Setting.{Logic, world_of, is_regular, are_regular_after}
 use Rattle.c_kinds.specs.declared.models.Machdep.{Machdep}

@@ -9,8 +9,8 @@ use Rattle.c_kinds.specs.declared.models.Machdep.{Machdep}
 use Rattle.c_kinds.specs.Models.{holds}
 use Rattle.typed_prog.specs.declared.operators.Variable.{Variable}
 use Rattle.typed_prog.specs.declared.operators.Variable.TheVariants as variables
-use Rattle.acsl_truth.specs.States.{number}
-use Rattle.acsl_truth.specs.States as labelled
+use Rattle.c_runs.specs.TruthStates.{number}
+use Rattle.c_runs.specs.TruthStates as labelled
 use Rattle.qed_terms.specs.Operators.{is_equal}
 use Rattle.qed_terms.specs.Tree.{Tree as Term}
 use Rattle.qed_terms.specs.Meaning as sense

@@ -7,7 +7,7 @@ use Rattle.acsl_trees.specs.declared.heads.Label.{Label}
 use Rattle.acsl_trees.specs.declared.heads.Range.TheVariants as range
 use Rattle.acsl_trees.specs.declared.heads.Head.TheVariants as h
 use Rattle.acsl_trees.specs.Tree.{Tree, Trees, node, stop, more}
-use Rattle.acsl_truth.specs.Truth.{heads_of}
+use Rattle.c_runs.specs.Truth.{heads_of}
 use Rattle.qed_terms.specs.Tree.{var, not_of, and_of, or_of, imp_of}
 use Rattle.qed_terms.specs.declared.head.Head.TheVariants as th
 use Rattle.qed_terms.specs.declared.head.TermOp.TheVariants as op

@@ -3,8 +3,8 @@ use Rattle.std.specs.Prelude.{Bool, true, ◌&&◌, []}
 use Rattle.std.specs.List.{list_all}
 use Rattle.wp_base.specs.declared.kinds.Kind.TheVariants as kind
 use Rattle.c_runs.specs.Program.{Behavior, Contract, Function, Facts}
-use Rattle.core_checks.specs.Tree as core
-use Rattle.core_checks.specs.Tree.{Steps}
+use Rattle.c_runs.specs.Tree as core
+use Rattle.c_runs.specs.Tree.{Steps}
 use Rattle.program_steps.specs.Told.{Shape, shape_of}
 use Rattle.program_steps.specs.Terms.{Texts}
 use Rattle.plain_annotations.specs.Claims.{is_body_claim}

@@ -2,9 +2,9 @@
 use Rattle.std.specs.Prelude.{◌≡◌, true, List, [], Some}
 use Rattle.acsl_trees.specs.Tree.{Tree}
 use Rattle.acsl_expand.specs.Expansion.{Definition}
-use Rattle.acsl_truth.specs.States.{World, number_of}
-use Rattle.acsl_truth.specs.Truth.{calls_of, named, holds}
-use Rattle.acsl_truth.specs.Truth as truth
+use Rattle.c_runs.specs.TruthStates.{World, number_of}
+use Rattle.c_runs.specs.Truth.{calls_of, named, holds}
+use Rattle.c_runs.specs.Truth as truth
 use Rattle.qed_terms.specs.Tree.{Tree as Term}
 use Rattle.qed_terms.specs.Meaning as sense
 use Rattle.qed_terms.specs.Meaning.{Values}

@@ -8,7 +8,7 @@ use Rattle.c_kinds.specs.Conversions.{holds_all}
 use Rattle.typed_prog.specs.declared.operators.Variable.{Variable}
 use Rattle.typed_prog.specs.declared.operators.Variable.TheVariants as variables
 use Rattle.acsl_trees.specs.Tree as acsl
-use Rattle.acsl_truth.specs.Truth.{calls_of}
+use Rattle.c_runs.specs.Truth.{calls_of}
 use Rattle.qed_terms.specs.Meaning as sense
 use Rattle.qed_terms.specs.Names.{is_name}
 use Rattle.c_runs.specs.Program as program

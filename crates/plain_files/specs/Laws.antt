@@ -9,8 +9,8 @@ use Rattle.typed_unit.specs.Unit as u
 use Rattle.acsl_typing.specs.Annotations.{Annotations}
 use Rattle.acsl_annotated.specs.Annotated.{file_expanded}
 use Rattle.plain_programs.specs.Told.{program_of}
-use Rattle.normal_stmts.specs.Normal.{normal}
-use Rattle.core_checks.specs.Adding.{add_checks}
+use Rattle.c_runs.specs.Normal.{normal}
+use Rattle.c_runs.specs.Adding.{add_checks}
 use Rattle.plain_runs.specs.Fitting.{FitsProgram}
 use Rattle.plain_normal.specs.Plain.{IsPlainProgram}
 use Rattle.plain_test.specs.Plain.{is_plain_file}

@@ -15,9 +15,9 @@ use Rattle.acsl_notes.specs.Notes.{Note}
 use Rattle.acsl_typing.specs.Annotations.{Annotations}
 use Rattle.c_runs.specs.Program.{Stmts, Function, Program}
 use Rattle.plain_files.specs.Told.{Text, text_of, values_of, program_of}
-use Rattle.normal_stmts.specs.Normal.{normal_function}
-use Rattle.core_checks.specs.Adding.{function_of}
-use Rattle.core_checks.specs.Tree.{Steps}
+use Rattle.c_runs.specs.Normal.{normal_function}
+use Rattle.c_runs.specs.Adding.{function_of}
+use Rattle.c_runs.specs.Tree.{Steps}
 use Rattle.plain_states.proofs.Scoping.{none_some}
 use Rattle.plain_states.proofs.Calling.{some_same}
 use Rattle.plain_runs.specs.Fitting.{Shape, FitsProgram}

@@ -5,7 +5,7 @@ use Rattle.std.proofs.lemmas.Bool.{and_parts}
 use Rattle.c_kinds.specs.Models.{long_bits}
 use Rattle.qed_terms.specs.Setting.{Setting, world_of}
 use Rattle.c_runs.specs.Program.{Function, Program}
-use Rattle.core_checks.specs.Tree.{Steps}
+use Rattle.c_runs.specs.Tree.{Steps}
 use Rattle.plain_runs.specs.Fitting.{is_param, FitsProgram}
 use Rattle.program_steps.specs.Temporaries.{no_temporaries}
 use Rattle.program_steps.specs.Terms.{Texts}

@@ -6,9 +6,9 @@ use Rattle.typed_prog.specs.Tree as t
 use Rattle.acsl_trees.specs.Tree as acsl
 use Rattle.qed_terms.specs.Meaning as sense
 use Rattle.c_runs.specs.Program.{Measure, Behavior, Contract, Loop, Function, Facts, Program}
-use Rattle.rte_checks.specs.Checks.{Check}
-use Rattle.core_checks.specs.Tree as core
-use Rattle.core_checks.specs.Tree.{Goal, Steps}
+use Rattle.c_runs.specs.Checks.{Check}
+use Rattle.c_runs.specs.Tree as core
+use Rattle.c_runs.specs.Tree.{Goal, Steps}
 use Rattle.plain_runs.specs.Fitting.{Shape, with_names}
 use Rattle.program_steps.specs.Temporaries.{Temporaries, no_temporaries, live, all_live}
 use Rattle.program_steps.specs.Terms.{Texts}

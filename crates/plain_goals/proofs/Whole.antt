@@ -5,7 +5,7 @@ use Rattle.typed_unit.specs.Unit as u
 use Rattle.acsl_typing.specs.Annotations.{Annotations}
 use Rattle.qed_terms.specs.Setting.{Valid}
 use Rattle.plain_files.specs.Told.{notes_of, program_of}
-use Rattle.core_checks.specs.Tree.{Step, Steps, end, then_, set, store, start, call, branch, repeat, around, exit, give, claim, scope}
+use Rattle.c_runs.specs.Tree.{Step, Steps, end, then_, set, store, start, call, branch, repeat, around, exit, give, claim, scope}
 use Rattle.goal_segments.specs.Laws.{calls_among, all_among}
 use Rattle.walk_steps.specs.State.{In}
 use Rattle.walk_steps.specs.Walk.{Goal, formula_of}

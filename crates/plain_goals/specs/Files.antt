@@ -8,9 +8,9 @@ use Rattle.acsl_typing.specs.Annotations.{Annotations}
 use Rattle.qed_terms.specs.Setting.{Setting}
 use Rattle.c_runs.specs.Program.{Stmts, Function, Program}
 use Rattle.plain_files.specs.Told.{Text, notes_of, text_of, program_of}
-use Rattle.normal_stmts.specs.Normal.{normal}
-use Rattle.core_checks.specs.Adding.{add_checks}
-use Rattle.core_checks.specs.Tree.{Steps}
+use Rattle.c_runs.specs.Normal.{normal}
+use Rattle.c_runs.specs.Adding.{add_checks}
+use Rattle.c_runs.specs.Tree.{Steps}
 use Rattle.plain_runs.specs.Fitting.{Shape, shape_of, is_param}
 use Rattle.walk_steps.specs.Walk.{Goal}
 use Rattle.program_steps.specs.Temporaries.{no_temporaries}

@@ -8,7 +8,7 @@ use Rattle.c_syntax.specs.Decl as d
 use Rattle.typed_unit.specs.Unit as u
 use Rattle.acsl_trees.specs.Tree as acsl
 use Rattle.acsl_typing.specs.Annotations.{Annotations}
-use Rattle.acsl_truth.specs.States.{Value}
+use Rattle.c_runs.specs.TruthStates.{Value}
 use Rattle.qed_terms.specs.Meaning as sense
 use Rattle.qed_terms.specs.Setting.{Setting, world_of, Valid}
 use Rattle.qed_terms.specs.WellFormed.{is_goal}
@@ -19,7 +19,7 @@ use Rattle.c_runs.specs.Calls.{stops}
 use Rattle.c_runs.specs.Entry.{Enters}
 use Rattle.c_runs.specs.Run as spelled
 use Rattle.plain_files.specs.Told.{program_of}
-use Rattle.core_checks.specs.Tree.{Steps}
+use Rattle.c_runs.specs.Tree.{Steps}
 use Rattle.goal_segments.specs.Segments.{FunctionSeg}
 use Rattle.goal_segments.specs.Laws.{IsClosed}
 use Rattle.plain_files.specs.Laws.{IsOfText}

@@ -7,10 +7,10 @@ use Rattle.typed_prog.specs.declared.types.CoreType.{CoreType}
 use Rattle.typed_prog.specs.declared.operators.Path.{Path}
 use Rattle.typed_prog.specs.Tree as t
 use Rattle.c_runs.specs.Program.{Function, Facts, Program}
-use Rattle.core_runs.specs.Core.{Target, nowhere, temporary, Core, set, store, start, call, branch, repeat, around, exit, give, claim, scope, Cores, end, then_}
-use Rattle.rte_checks.specs.Checks.{all_checks}
-use Rattle.core_checks.specs.Tree.{Steps}
-use Rattle.core_checks.specs.Adding.{goal_of, step_of, steps_of, function_of, add_checks}
+use Rattle.c_runs.specs.Core.{Target, nowhere, temporary, Core, set, store, start, call, branch, repeat, around, exit, give, claim, scope, Cores, end, then_}
+use Rattle.c_runs.specs.Checks.{all_checks}
+use Rattle.c_runs.specs.Tree.{Steps}
+use Rattle.c_runs.specs.Adding.{goal_of, step_of, steps_of, function_of, add_checks}
 use Rattle.plain_states.specs.Scopes.{is_integer}
 use Rattle.plain_states.proofs.Scoping.{none_some}
 use Rattle.plain_states.proofs.Calling.{some_same}

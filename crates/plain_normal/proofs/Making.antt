@@ -14,10 +14,10 @@ use Rattle.typed_prog.specs.Types.{of_kind, void, is_pointer}
 use Rattle.typed_prog.specs.Tree as t
 use Rattle.c_runs.specs.Program.{Variable, Function, Facts, Stmts}
 use Rattle.c_runs.specs.Values.{kind_at, decides, agree}
-use Rattle.core_runs.specs.Core.{Core, set, branch, exit, Cores, end, then_, join, one}
-use Rattle.rte_checks.specs.Checks.{has_checks}
-use Rattle.normal_stmts.specs.Plans.{temp_of, constant_of, no_value, Made, Tests, Sent, Mades, Plan, kept, save, sent_made, jump, leaf, leafy, straight, crossed, logic_test, flag, logic_made, logic_plan, Condition, jumps_, tests_, condition, next_of, fork, into, choice_made, save_if, made_if, nothing_made}
-use Rattle.normal_stmts.specs.Normal.{normal_function}
+use Rattle.c_runs.specs.Core.{Core, set, branch, exit, Cores, end, then_, join, one}
+use Rattle.c_runs.specs.Checks.{has_checks}
+use Rattle.c_runs.specs.Plans.{temp_of, constant_of, no_value, Made, Tests, Sent, Mades, Plan, kept, save, sent_made, jump, leaf, leafy, straight, crossed, logic_test, flag, logic_made, logic_plan, Condition, jumps_, tests_, condition, next_of, fork, into, choice_made, save_if, made_if, nothing_made}
+use Rattle.c_runs.specs.Normal.{normal_function}
 use Rattle.plain_states.specs.Scopes.{is_integer}
 use Rattle.plain_states.proofs.Scoping.{none_some}
 use Rattle.plain_runs.specs.Fitting.{Shape}

@@ -19,9 +19,9 @@ use Rattle.c_runs.specs.Scopes.{scalar_of}
 use Rattle.c_runs.specs.Values.{kind_at}
 use Rattle.c_runs.specs.Effects.{changed}
 use Rattle.c_runs.specs.Run.{old_value}
-use Rattle.core_runs.specs.Core.{Target, nowhere, temporary, store, call}
-use Rattle.normal_stmts.specs.Normal.{normal_function}
-use Rattle.core_checks.specs.Adding.{goal_of}
+use Rattle.c_runs.specs.Core.{Target, nowhere, temporary, store, call}
+use Rattle.c_runs.specs.Normal.{normal_function}
+use Rattle.c_runs.specs.Adding.{goal_of}
 use Rattle.plain_states.specs.Scopes.{is_integer, are_one_integer, kind_of}
 use Rattle.plain_states.proofs.Scoping.{listed_integer, cell_of_integer}
 use Rattle.plain_runs.specs.Fitting.{LeadsTo, to_local, to_global, Receives, by_temporary}

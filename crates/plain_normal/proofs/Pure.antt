@@ -5,7 +5,7 @@ use Rattle.typed_prog.specs.declared.types.CoreType.{CoreType}
 use Rattle.typed_prog.specs.Types.{is_pointer}
 use Rattle.typed_prog.specs.Tree as t
 use Rattle.c_runs.specs.Values.{has_effect}
-use Rattle.normal_stmts.specs.Plans.{Made, Mades, kept, leafy, logic_plan, choice_made, need, put_before, op_made, save_if, pure, pures}
+use Rattle.c_runs.specs.Plans.{Made, Mades, kept, leafy, logic_plan, choice_made, need, put_before, op_made, save_if, pure, pures}
 use Rattle.plain_normal.specs.Plain.{IsPlain, AreAllPlain, NodeIsPlain}
 use Rattle.plain_normal.proofs.Sorts.{op_same}
 use Rattle.plain_normal.proofs.Done.{NodeTakes, Takes, AllTake, on_test}

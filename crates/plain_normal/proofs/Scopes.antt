@@ -11,8 +11,8 @@ use Rattle.typed_prog.specs.declared.operators.Effect.TheVariants as effect
 use Rattle.typed_prog.specs.declared.operators.Path.{Path}
 use Rattle.typed_prog.specs.Tree as t
 use Rattle.c_runs.specs.Program.{Variable, Function, Facts, Stmt, evaluate, block, initial, choose, loop, switch, case_of, default, break, continue, return_of, assert, Stmts, stop, more}
-use Rattle.rte_checks.specs.Checks.{Check}
-use Rattle.core_checks.specs.Tree.{Goal, nowhere, temporary, place, variable as to_variable, Step, set, store, start, call, branch, repeat, around, exit, give, claim, scope, Steps, end, then_}
+use Rattle.c_runs.specs.Checks.{Check}
+use Rattle.c_runs.specs.Tree.{Goal, nowhere, temporary, place, variable as to_variable, Step, set, store, start, call, branch, repeat, around, exit, give, claim, scope, Steps, end, then_}
 use Rattle.plain_runs.specs.Touched.{is_local, goal_sets, sets, some_sets}
 use Rattle.plain_runs.specs.Fitting.{Shape, LeadsTo, to_local, to_global, with_name, with_names, Declares, Receives, by_place, by_variable, Calls, for_none, for_nothing, for_result, FitsStep, FitsSteps}
 use Rattle.plain_normal.specs.Plain.{Names, local, global, EffectIsPlain, NodeIsPlain, IsPlain, AreAllPlain, IsWanted, IfWanted, Begins, AreNew, up_to, StmtIsPlain, StmtsArePlain}

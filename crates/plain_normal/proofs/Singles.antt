@@ -13,10 +13,10 @@ use Rattle.typed_prog.specs.Tree as t
 use Rattle.c_runs.specs.Values.{has_effect, kind_at}
 use Rattle.c_runs.specs.Effects.{changed}
 use Rattle.c_runs.specs.Run.{old_value, updating}
-use Rattle.core_checks.specs.Adding.{goal_of}
-use Rattle.core_runs.specs.Core.{Target, nowhere, place, variable, store, start, call, give, join, one}
-use Rattle.normal_stmts.specs.Plans.{Made, operands, first_plan, planned}
-use Rattle.normal_stmts.specs.Normal.{Did, is_temp, save_unless, dropped, called_into, plain_store, stored, effect_of, started, loop_test, loop_step, given}
+use Rattle.c_runs.specs.Adding.{goal_of}
+use Rattle.c_runs.specs.Core.{Target, nowhere, place, variable, store, start, call, give, join, one}
+use Rattle.c_runs.specs.Plans.{Made, operands, first_plan, planned}
+use Rattle.c_runs.specs.Normal.{Did, is_temp, save_unless, dropped, called_into, plain_store, stored, effect_of, started, loop_test, loop_step, given}
 use Rattle.plain_states.specs.Scopes.{kind_of}
 use Rattle.plain_runs.specs.Fitting.{Receives, by_place, by_variable}
 use Rattle.value_terms.specs.Typed.{kind_given}

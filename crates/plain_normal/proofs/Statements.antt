@@ -13,10 +13,10 @@ use Rattle.c_runs.specs.Values.{kind_at}
 use Rattle.c_runs.specs.Run.{is_case}
 use Rattle.typed_prog.specs.Tree as t
 use Rattle.c_runs.specs.Program.{Loop, Stmt, evaluate, block, initial, choose, loop, switch, case_of, default, break, continue, return_of, assert, Stmts, stop, more}
-use Rattle.core_runs.specs.Core.{branch, around, exit, claim, Cores, end, then_, join, one}
-use Rattle.normal_stmts.specs.Plans.{constant_of, Tests, no_value, condition, next_of, planned}
-use Rattle.normal_stmts.specs.Normal.{Did, is_settled, save_unless, effect_of, started, loop_test, loop_step, given, is_label, whole_switch, close, int_type, truth_of, label_test, index_of, dispatch, up, loop_body, stmt, stmts, groups}
-use Rattle.core_checks.specs.Adding.{steps_of}
+use Rattle.c_runs.specs.Core.{branch, around, exit, claim, Cores, end, then_, join, one}
+use Rattle.c_runs.specs.Plans.{constant_of, Tests, no_value, condition, next_of, planned}
+use Rattle.c_runs.specs.Normal.{Did, is_settled, save_unless, effect_of, started, loop_test, loop_step, given, is_label, whole_switch, close, int_type, truth_of, label_test, index_of, dispatch, up, loop_body, stmt, stmts, groups}
+use Rattle.c_runs.specs.Adding.{steps_of}
 use Rattle.plain_runs.specs.Touched.{some_sets}
 use Rattle.plain_runs.specs.Fitting.{with_name, with_names, Declares}
 use Rattle.plain_normal.specs.Typed.{IsOfKind}

@@ -1,8 +1,8 @@
 -- What is promised of programs over plain integers.
 use Rattle.c_runs.specs.Program.{Stmts, Program}
-use Rattle.core_runs.specs.Core.{Cores}
-use Rattle.normal_stmts.specs.Normal.{normal}
-use Rattle.core_checks.specs.Adding.{add_checks}
+use Rattle.c_runs.specs.Core.{Cores}
+use Rattle.c_runs.specs.Normal.{normal}
+use Rattle.c_runs.specs.Adding.{add_checks}
 use Rattle.plain_runs.specs.Fitting.{FitsProgram}
 use Rattle.plain_normal.specs.Plain.{IsPlainProgram}
 use Rattle.plain_normal.specs.Typed.{ProgramIsTyped}

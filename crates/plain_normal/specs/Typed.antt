@@ -5,8 +5,8 @@ use Rattle.wp_base.specs.declared.kinds.CellKind.TheVariants as cell
 use Rattle.wp_base.specs.declared.kinds.Kind.{Kind}
 use Rattle.typed_prog.specs.Tree as t
 use Rattle.c_runs.specs.Program.{Variable, Function, Facts, Program}
-use Rattle.core_runs.specs.Core.{Target, nowhere, temporary, Core, set, store, start, call, branch, repeat, around, exit, give, claim, scope, Cores, end, then_}
-use Rattle.core_checks.specs.Adding.{goal_of, steps_of}
+use Rattle.c_runs.specs.Core.{Target, nowhere, temporary, Core, set, store, start, call, branch, repeat, around, exit, give, claim, scope, Cores, end, then_}
+use Rattle.c_runs.specs.Adding.{goal_of, steps_of}
 use Rattle.plain_states.specs.Scopes.{is_integer, kind_of}
 use Rattle.plain_runs.specs.Touched.{some_sets}
 use Rattle.plain_runs.specs.Fitting.{Shape, LeadsTo, Takes, Declares, Receives, with_names, is_param}

@@ -10,8 +10,8 @@ use Rattle.c_typed_stmts.specs.Judgement.{IsTyped, AreTyped}
 use Rattle.c_programs.specs.Told.{Annotations}
 use Rattle.c_runs.specs.Program.{Stmts, Function, Program}
 use Rattle.c_programs.specs.Files.{Text, notes_of, text_of, clauses_for, function_with, result_of, program_of}
-use Rattle.normal_stmts.specs.Normal.{normal}
-use Rattle.core_checks.specs.Adding.{add_checks}
+use Rattle.c_runs.specs.Normal.{normal}
+use Rattle.c_runs.specs.Adding.{add_checks}
 use Rattle.plain_runs.specs.Fitting.{is_param, FitsProgram}
 use Rattle.plain_normal.specs.Plain.{IsPlainProgram}
 use Rattle.plain_test.specs.Plain.{is_plain_file}

@@ -13,7 +13,7 @@ use Rattle.qed_terms.specs.Setting.{Setting, Valid}
 use Rattle.prover.proofs.Sound.{verdict_valid}
 use Rattle.c_runs.specs.Program.{Function}
 use Rattle.c_programs.specs.Files.{notes_of, program_of}
-use Rattle.core_checks.specs.Tree.{Steps}
+use Rattle.c_runs.specs.Tree.{Steps}
 use Rattle.walk_steps.specs.State.{In}
 use Rattle.walk_steps.specs.Walk.{Goal, formula_of}
 use Rattle.program_goals.specs.Programs.{AllValid}

@@ -2,7 +2,7 @@
 use Rattle.std.specs.Prelude.{◌≡◌, ℕ, Bool, true, List, Some, slice_get}
 use Rattle.wp_base.specs.declared.kinds.Kind.{Kind}
 use Rattle.c_kinds.specs.declared.models.Machdep.{Machdep}
-use Rattle.acsl_truth.specs.States.{Value}
+use Rattle.c_runs.specs.TruthStates.{Value}
 use Rattle.qed_terms.specs.declared.verdict.Verdict.TheVariants as verdict
 use Rattle.qed_terms.specs.Setting.{Valid}
 use Rattle.c_runs.specs.Program.{Stmts, Function}
@@ -10,7 +10,7 @@ use Rattle.c_runs.specs.States.{Memory}
 use Rattle.c_runs.specs.Entry.{Enters}
 use Rattle.c_runs.specs.Run as spelled
 use Rattle.c_programs.specs.Files.{program_of}
-use Rattle.core_checks.specs.Tree.{Steps}
+use Rattle.c_runs.specs.Tree.{Steps}
 use Rattle.goal_segments.specs.Laws.{IsClosed}
 use Rattle.walk_steps.specs.Walk.{Goal, formula_of}
 use Rattle.program_goals.specs.Laws.{RunsWell}

@@ -1,15 +1,15 @@
 -- How statements end, with what they keep.
 use Rattle.std.proofs.Common.{◌≡◌, ℕ, zero, suc, ℤ, Bool, true, false, ◌&&◌, if◌then◌else◌, List, [], ◌∷◌, Option, Some, None, refl, sym, ap, ◌∙◌, arith}
 use Rattle.std.specs.List.{list_all}
-use Rattle.acsl_truth.specs.States.{Value, number}
+use Rattle.c_runs.specs.TruthStates.{Value, number}
 use Rattle.c_runs.specs.Program.{Facts, Loop, Variable, Program}
 use Rattle.c_runs.specs.States.{Memory, Here, Granted}
 use Rattle.c_runs.specs.Operators.{Undefined}
 use Rattle.c_runs.specs.Claims.{Stop, undefined, may_change_local, at_head, in_body, measure_of}
 use Rattle.plain_states.specs.Told.{CoreWorld, Ending, goes_on, exits, returns, stopped, then_do, unless, one_turn, scope_left, scope_end}
-use Rattle.core_checks.specs.Told.{Check}
-use Rattle.core_checks.specs.Tree.{Steps}
-use Rattle.core_checks.specs.Run as run
+use Rattle.c_runs.specs.CheckedTold.{Check}
+use Rattle.c_runs.specs.Tree.{Steps}
+use Rattle.c_runs.specs.CheckedRun as run
 use Rattle.plain_states.specs.Slots.{State, world_in, core_in, memory_in}
 use Rattle.plain_states.specs.Scopes.{IsClean, AllBelow as NamesBelow, without_variables}
 use Rattle.plain_states.proofs.Calling.{leaves_scope}

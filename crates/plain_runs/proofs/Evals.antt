@@ -1,15 +1,15 @@
 -- A call, with all that is asked of it, in a program whose bodies keep what they have to at the level below.
 use Rattle.std.proofs.Common.{◌≡◌, ℕ, zero, suc, ◌≤◌, ℤ, Bool, false, List, [], map, length, Option, Some, None, refl, sym, ap, subst, arith}
 use Rattle.wp_base.specs.declared.kinds.CellKind.{CellKind}
-use Rattle.acsl_truth.specs.States.{Value, number}
+use Rattle.c_runs.specs.TruthStates.{Value, number}
 use Rattle.c_runs.specs.Program.{Facts, Function, Contract, Program}
 use Rattle.c_runs.specs.States.{Memory, World, Here}
 use Rattle.c_runs.specs.Claims.{Stop, here_in, required, decreased, measure_of, at_entry, entered_well, ensured}
 use Rattle.c_runs.specs.Calls.{Eval, gives, stops, nought, unless, turn_by, back_in, keeps_promises, entered_by, found as found_by}
 use Rattle.c_runs.specs.Run as spelled
 use Rattle.plain_states.specs.Told.{CoreWorld, Ending, goes_on, exits, returns, stopped, begun}
-use Rattle.core_checks.specs.Tree.{Steps}
-use Rattle.core_checks.specs.Run as run
+use Rattle.c_runs.specs.Tree.{Steps}
+use Rattle.c_runs.specs.CheckedRun as run
 use Rattle.plain_states.specs.Slots.{State, world_in, core_in}
 use Rattle.plain_states.specs.Scopes.{entry_state, behind_state}
 use Rattle.plain_states.proofs.Entering.{arrives, comes_back}

@@ -4,8 +4,8 @@ use Rattle.c_runs.specs.Program.{Program}
 use Rattle.c_runs.specs.States.{Memory}
 use Rattle.c_runs.specs.Claims.{spent}
 use Rattle.plain_states.specs.Told.{stopped}
-use Rattle.core_checks.specs.Tree.{Steps}
-use Rattle.core_checks.specs.Run as run
+use Rattle.c_runs.specs.Tree.{Steps}
+use Rattle.c_runs.specs.CheckedRun as run
 use Rattle.plain_runs.specs.Fitting.{IsGood, FitsProgram, is_param}
 use Rattle.plain_runs.specs.Kept.{some_sets, some_temps, KeptFile, Kept, Returned}
 use Rattle.plain_runs.specs.Laws.{shape, Keeps, LevelsKeep}

@@ -10,15 +10,15 @@ use Rattle.typed_prog.specs.declared.operators.Path.{Path}
 use Rattle.typed_prog.specs.declared.operators.Root.{Root}
 use Rattle.typed_prog.specs.declared.operators.Root.TheVariants as root
 use Rattle.typed_prog.specs.declared.operators.Variable.TheVariants as variable
-use Rattle.acsl_truth.specs.States.{Value, number, pointer}
+use Rattle.c_runs.specs.TruthStates.{Value, number, pointer}
 use Rattle.c_runs.specs.Program.{Variable, Facts, Program}
 use Rattle.c_runs.specs.States.{Memory, World, Here, Local, plain, with_local, with_memory, stored_in, home_from, global_home}
 use Rattle.c_runs.specs.Objects.{plain_root, is_plain_in, cell_of, address, along, start}
 use Rattle.c_runs.specs.Claims.{may_change, may_change_local}
 use Rattle.c_runs.specs.Effects.{granted, cell_written, kind_there, wrote_act, initial_act, initial_by}
 use Rattle.plain_states.specs.Told.{Ending, goes_on, in_world, with_eval}
-use Rattle.core_checks.specs.Tree.{Steps}
-use Rattle.core_checks.specs.Run as run
+use Rattle.c_runs.specs.Tree.{Steps}
+use Rattle.c_runs.specs.CheckedRun as run
 use Rattle.plain_states.specs.Slots.{State, with_variable, result_slot, world_in, core_in}
 use Rattle.plain_states.specs.Scopes.{is_integer, are_one_integer, kind_of}
 use Rattle.plain_states.proofs.Puts.{changes_are_puts}

@@ -11,7 +11,7 @@ use Rattle.wp_base.specs.declared.kinds.Kind.TheVariants as kind
 use Rattle.c_kinds.specs.declared.models.Machdep.{Machdep}
 use Rattle.c_kinds.specs.declared.models.Machdep.TheVariants as model
 use Rattle.c_kinds.specs.Models.{holds}
-use Rattle.acsl_truth.specs.States.{Value, number, pointer, addresses, region, number_of}
+use Rattle.c_runs.specs.TruthStates.{Value, number, pointer, addresses, region, number_of}
 use Rattle.c_runs.specs.Program.{Facts, Variable}
 use Rattle.c_runs.specs.States.{Granted}
 use Rattle.c_runs.specs.Claims.{may_change_local}

@@ -5,8 +5,8 @@ use Rattle.std.proofs.lemmas.Bool.{le-leb}
 use Rattle.wp_base.specs.declared.kinds.CellKind.TheVariants as cell
 use Rattle.wp_base.specs.Blocks.{count}
 use Rattle.acsl_trees.specs.Tree.{Tree}
-use Rattle.acsl_truth.specs.States.{Value, World as Labelled}
-use Rattle.acsl_truth.specs.Allowed.{is_named}
+use Rattle.c_runs.specs.TruthStates.{Value, World as Labelled}
+use Rattle.c_runs.specs.TruthAllowed.{is_named}
 use Rattle.c_runs.specs.Program.{Facts, Loop, Contract, Behavior}
 use Rattle.c_runs.specs.States.{Memory, World, Here, Granted, hidden, seen}
 use Rattle.c_runs.specs.Claims.{may_change_local, lets_cell, lets_local, granted_by, granted_in, of_caller, parts_of, in_body, in_loop, here_in, at_entry, is_assumed}

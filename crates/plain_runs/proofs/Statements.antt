@@ -9,7 +9,7 @@ use Rattle.c_kinds.specs.Models.{holds}
 use Rattle.typed_prog.specs.declared.types.CoreType.{CoreType}
 use Rattle.typed_prog.specs.declared.operators.Path.{Path}
 use Rattle.typed_prog.specs.Tree as tree
-use Rattle.acsl_truth.specs.States.{Value, number}
+use Rattle.c_runs.specs.TruthStates.{Value, number}
 use Rattle.c_runs.specs.Program.{Function, Program}
 use Rattle.c_runs.specs.States.{Memory, World, Here, is_nonzero}
 use Rattle.c_runs.specs.Claims as claims
@@ -17,9 +17,9 @@ use Rattle.c_runs.specs.Claims.{Stop, unless_true, in_body, in_loop, may_change_
 use Rattle.c_runs.specs.Scopes.{entered}
 use Rattle.c_runs.specs.Calls.{Eval, gives, stops, nought}
 use Rattle.plain_states.specs.Told.{CoreWorld, Ending, goes_on, with_eval, with_temp, in_world, scope_end}
-use Rattle.core_checks.specs.Told.{Check}
-use Rattle.core_checks.specs.Tree.{Goal, nowhere, temporary, place, variable, Step, set, store, start, call, branch, repeat, around, exit, give, claim, scope, Steps, end, then_}
-use Rattle.core_checks.specs.Run as run
+use Rattle.c_runs.specs.CheckedTold.{Check}
+use Rattle.c_runs.specs.Tree.{Goal, nowhere, temporary, place, variable, Step, set, store, start, call, branch, repeat, around, exit, give, claim, scope, Steps, end, then_}
+use Rattle.c_runs.specs.CheckedRun as run
 use Rattle.plain_states.specs.Slots.{State, at, temp_slot, with_temp_slot, memory_in, world_in, core_in}
 use Rattle.plain_states.specs.Scopes.{is_integer, scope_state, scope_contents}
 use Rattle.plain_states.proofs.Puts.{changes_are_puts}

@@ -10,14 +10,14 @@ use Rattle.wp_base.specs.declared.kinds.Kind.TheVariants as kind
 use Rattle.wp_base.specs.Blocks.{Table, count, or_ended, block_at, block_cells, has_cell, is_cell, has_layout}
 use Rattle.c_kinds.specs.Models.{holds}
 use Rattle.qed_terms.specs.Operators.{is_zero, is_equal}
-use Rattle.acsl_truth.specs.States.{Value, number, pointer, addresses, region, number_of}
+use Rattle.c_runs.specs.TruthStates.{Value, number, pointer, addresses, region, number_of}
 use Rattle.c_runs.specs.Program.{Variable, Facts}
 use Rattle.c_runs.specs.States.{plain, unset, Memory, count_plain, no_locals}
 use Rattle.c_runs.specs.Scopes.{scalar_of}
 use Rattle.c_runs.specs.Calls.{Eval, gives, stops}
 use Rattle.c_runs.specs.Entry.{is_value, is_placed, is_home, IsWellFormed}
 use Rattle.c_runs.specs.Run as spelled
-use Rattle.core_checks.specs.Run as run
+use Rattle.c_runs.specs.CheckedRun as run
 use Rattle.plain_states.specs.Slots.{State, double, at, held, value_slot, flag_slot, local_value, local_flag, local_in, cell_in, memory_in, world_in}
 use Rattle.plain_states.specs.Scopes.{IsClean, is_integer, are_one_integer, kind_of, zeros}
 use Rattle.plain_states.proofs.Puts.{zero_is}

@@ -11,13 +11,13 @@ use Rattle.typed_prog.specs.declared.operators.Path.{Path}
 use Rattle.typed_prog.specs.declared.operators.Root.TheVariants as root
 use Rattle.typed_prog.specs.declared.operators.Variable.TheVariants as variable
 use Rattle.typed_prog.specs.Tree as t
-use Rattle.acsl_truth.specs.States.{Value, number}
+use Rattle.c_runs.specs.TruthStates.{Value, number}
 use Rattle.c_runs.specs.Program.{Variable, Function, Facts, Program}
 use Rattle.c_runs.specs.States.{Memory}
 use Rattle.c_runs.specs.Entry.{leads_well, IsWellFormed}
-use Rattle.core_checks.specs.Told.{Check, total, totals, is_met}
-use Rattle.core_checks.specs.Tree.{Goal, nowhere, temporary, place, variable as to_variable, Step, set, store, start, call, branch, repeat, around, exit, give, claim, scope, Steps, end, then_}
-use Rattle.core_checks.specs.Run.{is_met_in, place_test, way_values, stored_value}
+use Rattle.c_runs.specs.CheckedTold.{Check, total, totals, is_met}
+use Rattle.c_runs.specs.Tree.{Goal, nowhere, temporary, place, variable as to_variable, Step, set, store, start, call, branch, repeat, around, exit, give, claim, scope, Steps, end, then_}
+use Rattle.c_runs.specs.CheckedRun.{is_met_in, place_test, way_values, stored_value}
 use Rattle.plain_runs.specs.Touched.{some_sets}
 use Rattle.plain_states.specs.Slots.{State, Sizes, sizes_of, at, value_slot, flag_slot, local_value, temp_slot, temps_in, world_in}
 use Rattle.plain_states.specs.Scopes.{is_integer, kind_of}

@@ -6,13 +6,13 @@ use Rattle.c_kinds.specs.Models.{holds}
 use Rattle.typed_prog.specs.declared.operators.Root.{Root}
 use Rattle.typed_prog.specs.declared.operators.Root.TheVariants as root
 use Rattle.typed_prog.specs.declared.operators.Variable.TheVariants as variable
-use Rattle.acsl_truth.specs.States.{Value, number}
+use Rattle.c_runs.specs.TruthStates.{Value, number}
 use Rattle.c_runs.specs.Program.{Variable, Facts}
 use Rattle.c_runs.specs.States.{Memory, Granted}
 use Rattle.c_runs.specs.Claims.{may_change, may_change_local}
 use Rattle.c_runs.specs.Calls.{nought}
 use Rattle.plain_states.specs.Told.{CoreWorld, Ending, goes_on, exits, returns, stopped}
-use Rattle.core_checks.specs.Tree.{Goal, nowhere, temporary, place, variable as to_variable, Step, set, store, start, call, branch, repeat, around, exit, give, claim, scope, Steps, end, then_}
+use Rattle.c_runs.specs.Tree.{Goal, nowhere, temporary, place, variable as to_variable, Step, set, store, start, call, branch, repeat, around, exit, give, claim, scope, Steps, end, then_}
 use Rattle.plain_states.specs.Slots.{State, at, value_slot, flag_slot, local_value, local_flag, temp_slot, core_in}
 use Rattle.plain_states.specs.Scopes.{kind_of}
 pub use Rattle.plain_runs.specs.Touched.{is_local, goal_sets, sets, some_sets}

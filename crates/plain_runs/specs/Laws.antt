@@ -1,13 +1,13 @@
 -- What is so of runs of programs over plain integers.
 use Rattle.std.specs.Prelude.{◌≡◌, ℕ, ℤ, Bool, true, List, map, Option, Some}
 use Rattle.std.specs.List.{list_all}
-use Rattle.acsl_truth.specs.States.{Value, number}
+use Rattle.c_runs.specs.TruthStates.{Value, number}
 use Rattle.c_runs.specs.Program.{Loop, Function, Program}
 use Rattle.c_runs.specs.States.{Memory, Here}
 use Rattle.c_runs.specs.Calls.{Eval, gives, stops}
 use Rattle.c_runs.specs.Entry.{IsWellFormed}
-use Rattle.core_checks.specs.Tree.{Steps}
-use Rattle.core_checks.specs.Run as run
+use Rattle.c_runs.specs.Tree.{Steps}
+use Rattle.c_runs.specs.CheckedRun as run
 use Rattle.plain_states.specs.Slots.{State, core_in}
 use Rattle.plain_states.specs.Scopes.{is_integer}
 use Rattle.plain_runs.specs.Fitting.{IsGood, Shape, sizes, Fit, AreOf, shape_of, is_param, FitsSteps, FitsFunction, FitsProgram}

@@ -9,7 +9,7 @@ use Rattle.acsl_notes.specs.Notes.{Note}
 use Rattle.acsl_typing.specs.Annotations.{Annotations}
 use Rattle.plain_goals.specs.Told.{file_expanded, Text, notes_of, text_of, program_of}
 use Rattle.c_runs.specs.Program.{Function}
-use Rattle.core_checks.specs.Tree.{Steps}
+use Rattle.c_runs.specs.Tree.{Steps}
 use Rattle.plain_goals.proofs.Told.{is_found}
 use Rattle.plain_goals.specs.Files.{core_of, names_in, own_names, text_at}
 use Rattle.plain_goals.proofs.Files.{core_found}

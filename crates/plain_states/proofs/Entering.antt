@@ -10,7 +10,7 @@ use Rattle.c_runs.specs.States as run
 use Rattle.c_runs.specs.States.{Local, plain, unset, Memory, World, with_local, with_memory, no_locals}
 use Rattle.c_runs.specs.Scopes.{param_made, params_made, arrived}
 use Rattle.c_runs.specs.Calls.{gives, back_in}
-use Rattle.core_runs.specs.Run.{begun}
+use Rattle.c_runs.specs.CoreRun.{begun}
 use Rattle.plain_states.specs.Slots.{State, Sizes, sizes_of, at, held, value_slot, local_value, local_flag, temp_slot, local_in, cell_in, world_in, temps_in, core_in}
 use Rattle.plain_states.specs.Scopes.{IsClean, is_integer, are_one_integer, entry_state, behind_state}
 use Rattle.plain_states.proofs.Lists.{double_is, value_before}

@@ -8,7 +8,7 @@ use Rattle.qed_terms.specs.Operators.{is_zero, is_equal}
 use Rattle.c_runs.specs.Told.{Value, number}
 use Rattle.c_runs.specs.States.{Local, plain, unset, Memory, World, with_local, with_memory, stored_in, with_cell}
 use Rattle.c_runs.specs.States as run
-use Rattle.core_runs.specs.Run.{with_temp, in_world}
+use Rattle.c_runs.specs.CoreRun.{with_temp, in_world}
 use Rattle.plain_states.specs.Slots.{State, Sizes, put, at, held, value_slot, flag_slot, local_value, local_flag, result_slot, temp_slot, with_temp_slot, with_variable, local_in, cell_in, memory_in, world_in, temps_in, core_in}
 use Rattle.plain_states.specs.Laws.{ChangesArePuts}
 use Rattle.plain_states.proofs.Lists.{put_here, put_elsewhere, value_before, flag_before, set_value, set_flag, set_other, set_behind}

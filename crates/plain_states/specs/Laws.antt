@@ -2,7 +2,7 @@
 use Rattle.std.specs.Prelude.{◌≡◌, ◌<◌, ◌≤◌, ℕ, ◌+◌, ℤ, pos, negsuc, true, false, List, length}
 use Rattle.c_runs.specs.Told.{Value, number}
 use Rattle.c_runs.specs.States.{plain, Memory, with_local, with_memory, stored_in}
-use Rattle.core_runs.specs.Run.{with_temp, in_world}
+use Rattle.c_runs.specs.CoreRun.{with_temp, in_world}
 use Rattle.plain_states.specs.Slots.{State, Sizes, with_temp_slot, with_variable, result_slot, temp_slot, world_in, core_in, memory_in}
 
 -- A temporary, a variable of the function and one of the file that get a value, as changes of slots.

@@ -7,7 +7,7 @@ use Rattle.c_runs.specs.Told.{Value, number}
 use Rattle.c_runs.specs.Program.{Variable, Facts}
 use Rattle.c_runs.specs.States.{Local, plain, unset, Memory, World}
 use Rattle.c_runs.specs.Values.{Temps}
-use Rattle.core_runs.specs.Run.{CoreWorld}
+use Rattle.c_runs.specs.CoreRun.{CoreWorld}
 
 -- ---- lists of slots
 

@@ -9,7 +9,7 @@ use Rattle.acsl_trees.specs.declared.heads.Head.TheVariants as hd
 use Rattle.acsl_trees.specs.declared.tree.Tree.{Tree as Code, out-Tree, roll-out-Tree}
 use Rattle.acsl_trees.specs.Tree.{Tree, Trees, node, stop, more, trees_of, view_tree, view_trees}
 use Rattle.acsl_trees.proofs.Equations.{view_made}
-use Rattle.acsl_truth.specs.Truth.{heads_of, head_of}
+use Rattle.c_runs.specs.Truth.{heads_of, head_of}
 use Rattle.plain_annotations.specs.Plain as plain
 use Rattle.plain_trees.specs.declared.roles.Role.{Role}
 use Rattle.plain_trees.specs.View.{role_of, is_link, names}

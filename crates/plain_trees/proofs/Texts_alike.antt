@@ -7,8 +7,8 @@ use Rattle.std.proofs.lemmas.Bool.{and_parts, false≢true}
 use Rattle.acsl_trees.specs.Tree.{Tree}
 use Rattle.acsl_expand.specs.Expansion.{Definition, definition_at}
 use Rattle.c_runs.specs.Program.{Variable, Claim, Measure, Behavior, Contract, Loop, Function, Facts}
-use Rattle.core_checks.specs.Tree as core
-use Rattle.core_checks.specs.Tree.{Steps}
+use Rattle.c_runs.specs.Tree as core
+use Rattle.c_runs.specs.Tree.{Steps}
 use Rattle.plain_runs.specs.Fitting.{Shape}
 use Rattle.acsl_encode.specs.Readings.{Called, Common}
 use Rattle.acsl_encode.specs.Setting.{in_form, logic_at, logic_of, known_first}

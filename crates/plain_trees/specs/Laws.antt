@@ -5,7 +5,7 @@ use Rattle.c_kinds.specs.declared.models.Machdep.{Machdep}
 use Rattle.c_kinds.specs.Models.{long_bits}
 use Rattle.qed_terms.specs.Setting.{Setting, is_regular}
 use Rattle.c_runs.specs.Program.{Function, Facts}
-use Rattle.core_checks.specs.Tree.{Steps}
+use Rattle.c_runs.specs.Tree.{Steps}
 use Rattle.program_trees.specs.Files.{at}
 use Rattle.program_steps.specs.Terms.{Texts}
 use Rattle.plain_annotations.specs.Annotated.{is_annotated}

@@ -1,7 +1,7 @@
 // What is asked of a node of a typed annotation (ACSL 2.2).
 ghost use Rattle.std.specs.Prelude.{◌≡◌, ℕ, suc, nat_lt, None, slice_index_or};
 ghost use Rattle.acsl_trees.specs.Tree.{trees_of, view_trees};
-ghost use Rattle.acsl_truth.specs.Truth.{heads_of};
+ghost use Rattle.c_runs.specs.Truth.{heads_of};
 ghost use Rattle.plain_annotations.specs.Plain as spec;
 ghost use Rattle.plain_trees.specs.Around.{Reaches};
 ghost use Rattle.plain_trees.specs.View as view;

@@ -8,11 +8,11 @@ use Rattle.wp_base.specs.declared.kinds.Kind.{Kind}
 use Rattle.wp_base.specs.declared.kinds.Kind.TheVariants as kind
 use Rattle.typed_prog.specs.Tree as t
 use Rattle.c_runs.specs.Program.{Variable, Function, Program}
-use Rattle.normal_stmts.specs.Plans.{constant_of}
-use Rattle.normal_stmts.specs.Normal.{normal, normal_function}
-use Rattle.rte_checks.specs.Checks.{checks_of}
-use Rattle.core_checks.specs.Tree.{Steps}
-use Rattle.core_checks.specs.Adding.{add_checks, function_of}
+use Rattle.c_runs.specs.Plans.{constant_of}
+use Rattle.c_runs.specs.Normal.{normal, normal_function}
+use Rattle.c_runs.specs.Checks.{checks_of}
+use Rattle.c_runs.specs.Tree.{Steps}
+use Rattle.c_runs.specs.Adding.{add_checks, function_of}
 use Rattle.plain_states.specs.Scopes.{kind_of}
 use Rattle.plain_states.proofs.Scoping.{none_some}
 use Rattle.plain_states.proofs.Calling.{some_same}

@@ -8,14 +8,14 @@ use Rattle.wp_base.specs.declared.kinds.Kind.{Kind}
 use Rattle.wp_base.specs.Blocks.{count}
 use Rattle.c_kinds.specs.Models.{holds}
 use Rattle.typed_prog.specs.Tree as t
-use Rattle.acsl_truth.specs.States.{Value, number, pointer, addresses, region}
+use Rattle.c_runs.specs.TruthStates.{Value, number, pointer, addresses, region}
 use Rattle.c_runs.specs.Program.{Variable, Facts}
 use Rattle.c_runs.specs.States.{Memory, World}
 use Rattle.c_runs.specs.Scopes.{is_content}
 use Rattle.c_runs.specs.Values.{Temps}
-use Rattle.rte_checks.specs.Checks.{Check, checks_of, all_checks, in_operand, later}
-use Rattle.rte_checks.specs.Tests.{total, totals, is_met}
-use Rattle.core_checks.specs.Run.{is_met_in}
+use Rattle.c_runs.specs.Checks.{Check, checks_of, all_checks, in_operand, later}
+use Rattle.c_runs.specs.Tests.{total, totals, is_met}
+use Rattle.c_runs.specs.CheckedRun.{is_met_in}
 use Rattle.plain_states.specs.Slots.{State, temps_in, world_in}
 use Rattle.plain_states.specs.Scopes.{is_integer, kind_of}
 use Rattle.plain_states.proofs.Scoping.{none_some}

@@ -12,16 +12,16 @@ use Rattle.typed_prog.specs.declared.operators.Root.TheVariants as root
 use Rattle.typed_prog.specs.declared.operators.Step.{Step}
 use Rattle.typed_prog.specs.declared.operators.Variable.TheVariants as variable
 use Rattle.typed_prog.specs.Tree as t
-use Rattle.acsl_truth.specs.States.{Value, number}
+use Rattle.c_runs.specs.TruthStates.{Value, number}
 use Rattle.c_runs.specs.Program.{Variable, Facts}
 use Rattle.c_runs.specs.States.{Memory, World}
 use Rattle.c_runs.specs.Operators.{Undefined, access}
 use Rattle.c_runs.specs.Objects.{plain_root, is_plain_in, is_pointed}
 use Rattle.c_runs.specs.Values.{Temps}
-use Rattle.rte_checks.specs.Checks.{Check, checks_of, all_checks, index_checks, one_if, in_operand, bump, later}
-use Rattle.rte_checks.specs.Tests.{total, totals, is_met, holds_in}
-use Rattle.core_checks.specs.Adding.{way_checks, way_checks_by, place_checks}
-use Rattle.core_checks.specs.Run.{is_met_in, place_test}
+use Rattle.c_runs.specs.Checks.{Check, checks_of, all_checks, index_checks, one_if, in_operand, bump, later}
+use Rattle.c_runs.specs.Tests.{total, totals, is_met, holds_in}
+use Rattle.c_runs.specs.Adding.{way_checks, way_checks_by, place_checks}
+use Rattle.c_runs.specs.CheckedRun.{is_met_in, place_test}
 use Rattle.plain_states.specs.Slots.{State, temps_in, world_in}
 use Rattle.plain_states.specs.Scopes.{is_integer, are_one_integer, kind_of}
 use Rattle.plain_states.proofs.Scoping.{listed_integer}

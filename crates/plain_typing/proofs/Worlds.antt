@@ -9,7 +9,7 @@ use Rattle.wp_base.specs.Blocks.{Table, count, is_cell}
 use Rattle.c_kinds.specs.Models.{holds}
 use Rattle.typed_prog.specs.declared.operators.Variable.TheVariants as variable
 use Rattle.typed_prog.specs.declared.operators.Variable as code
-use Rattle.acsl_truth.specs.States.{Value, number, pointer, addresses, region}
+use Rattle.c_runs.specs.TruthStates.{Value, number, pointer, addresses, region}
 use Rattle.c_runs.specs.Program.{Variable, Facts}
 use Rattle.c_runs.specs.States.{Memory, plain, unset, global_home, held_by}
 use Rattle.c_runs.specs.Scopes.{is_content, scalar_of}

@@ -22,8 +22,8 @@ use Rattle.typed_prog.specs.declared.operators.Variable.TheVariants as variable
 use Rattle.typed_prog.specs.Types.{of_kind}
 use Rattle.typed_prog.specs.Tree as t
 use Rattle.c_runs.specs.Program.{Behavior, Contract, Loop, Variable, Stmt, evaluate, block, initial, loop, return_of, Stmts, stop, more, Function, Facts, Program}
-use Rattle.normal_stmts.specs.Normal.{normal}
-use Rattle.core_checks.specs.Adding.{add_checks}
+use Rattle.c_runs.specs.Normal.{normal}
+use Rattle.c_runs.specs.Adding.{add_checks}
 use Rattle.plain_runs.specs.Fitting.{FitsProgram}
 
 abbrev pub int : CoreType

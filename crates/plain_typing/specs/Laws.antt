@@ -8,8 +8,8 @@ use Rattle.typed_prog.specs.declared.types.CoreType.{CoreType}
 use Rattle.typed_prog.specs.declared.operators.Path.{Path}
 use Rattle.typed_prog.specs.Tree as t
 use Rattle.c_runs.specs.Program.{Variable, Facts}
-use Rattle.rte_checks.specs.Checks.{checks_of, all_checks}
-use Rattle.core_checks.specs.Adding.{place_checks}
+use Rattle.c_runs.specs.Checks.{checks_of, all_checks}
+use Rattle.c_runs.specs.Adding.{place_checks}
 use Rattle.plain_states.specs.Scopes.{is_integer, kind_of}
 use Rattle.plain_runs.specs.Fitting.{Shape, Gives, GiveAll, LeadsTo, Stores}
 use Rattle.value_terms.specs.Typed.{Scope, kind_given, operand_kind, IsTyped, AreTyped}

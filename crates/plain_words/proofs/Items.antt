@@ -21,7 +21,7 @@ use Rattle.c_runs.specs.Program.{Facts, Variable}
 use Rattle.c_runs.specs.Operators.{Undefined, init, overflow, divzero, access}
 use Rattle.c_runs.specs.Objects.{plain_root, has_value, cell_of, is_pointed}
 use Rattle.c_runs.specs.Values.{kind_at}
-use Rattle.rte_checks.specs.Checks.{Check, second_constant, may_be_zero, may_be_minus_one, in_operand, later}
+use Rattle.c_runs.specs.Checks.{Check, second_constant, may_be_zero, may_be_minus_one, in_operand, later}
 use Rattle.value_terms.specs.Readings.{Term, number_term, term_at, Reading, plain_global}
 use Rattle.value_terms.specs.Terms.{of_one, exact_term, address_term, op_term, terms_of}
 use Rattle.value_terms.specs.Words.{Item, asked, known, asked_if, with_check, held_term, range_facts, is_below_term, quotient_fits_term, shift_fits_term, division_items, arithmetic_items, access_term, index_items, facts_by, read_items, op_items, node_word, word_of, words}

@@ -4,8 +4,8 @@ use Rattle.std.specs.Prelude.{nat_lt}
 use Rattle.std.proofs.lemmas.Bool.{false≢true}
 use Rattle.std.proofs.lemmas.Bool.Decides.{nat_tests}
 use Rattle.c_runs.specs.Program.{Variable}
-use Rattle.core_runs.specs.Core.{Core, set, store, start, call, branch, repeat, around, exit, give, claim, scope, Cores, end, then_, join, one}
-use Rattle.core_checks.specs.Adding.{step_of, steps_of}
+use Rattle.c_runs.specs.Core.{Core, set, store, start, call, branch, repeat, around, exit, give, claim, scope, Cores, end, then_, join, one}
+use Rattle.c_runs.specs.Adding.{step_of, steps_of}
 use Rattle.plain_runs.specs.Fitting.{with_names}
 use Rattle.loop_words.specs.Told.{Temporaries, no_temporaries, out_at, live, all_live}
 use Rattle.plain_words.specs.Temporaries.{greater, temporaries_by, temporaries_in}

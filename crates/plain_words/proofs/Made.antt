@@ -7,9 +7,9 @@ use Rattle.typed_prog.specs.declared.operators.Connective.{Connective}
 use Rattle.typed_prog.specs.Tree as t
 use Rattle.c_runs.specs.Program.{Variable}
 use Rattle.c_runs.specs.Values.{decides, agree}
-use Rattle.core_runs.specs.Core.{set, branch, around, exit, Cores, then_, join, one}
-use Rattle.rte_checks.specs.Checks.{has_checks}
-use Rattle.normal_stmts.specs.Plans.{constant_of, no_value, Made, Tests, Sent, Mades, Plan, kept, save, sent_made, jump, leaf, leafy, straight, crossed, logic_test, flag, logic_made, logic_plan, Condition, jumps_, tests_, condition, next_of, fork, into, choice_made, put_before, save_if, made_if, nothing_made}
+use Rattle.c_runs.specs.Core.{set, branch, around, exit, Cores, then_, join, one}
+use Rattle.c_runs.specs.Checks.{has_checks}
+use Rattle.c_runs.specs.Plans.{constant_of, no_value, Made, Tests, Sent, Mades, Plan, kept, save, sent_made, jump, leaf, leafy, straight, crossed, logic_test, flag, logic_made, logic_plan, Condition, jumps_, tests_, condition, next_of, fork, into, choice_made, put_before, save_if, made_if, nothing_made}
 use Rattle.loop_words.specs.Told.{Temporaries, no_temporaries, uses, some_use, out_at}
 use Rattle.plain_words.proofs.Live.{either, left_in, right_in, before_set, Among, also, among_more, among_then, among_grouped, greater_below, count_in, join_below, one_below, Reaches, lives, Stays, Fine, end_fine, join_fine, around_fine, Leaves}
 

@@ -16,8 +16,8 @@ use Rattle.c_runs.specs.Program.{Variable}
 use Rattle.c_runs.specs.Values.{has_effect}
 use Rattle.c_runs.specs.Effects.{changed}
 use Rattle.c_runs.specs.Run.{first_operand, other_operands, old_value, updating}
-use Rattle.core_runs.specs.Core.{temporary, call, store, Cores, join, one}
-use Rattle.normal_stmts.specs.Plans.{no_value, Made, Sent, Mades, Plan, Plans, kept, save, leafy, logic_plan, choice_made, need, put_before, op_made, save_if, pure, pures, nothing_made, made_if, first_value, stored_made, called_sent, sent_value, sending, whole_made, operands, saved_operands, assigned_made, changed_made, postfix_made, update_made, effect_plan, plain_plans, plans, node_plans, first_plan, planned}
+use Rattle.c_runs.specs.Core.{temporary, call, store, Cores, join, one}
+use Rattle.c_runs.specs.Plans.{no_value, Made, Sent, Mades, Plan, Plans, kept, save, leafy, logic_plan, choice_made, need, put_before, op_made, save_if, pure, pures, nothing_made, made_if, first_value, stored_made, called_sent, sent_value, sending, whole_made, operands, saved_operands, assigned_made, changed_made, postfix_made, update_made, effect_plan, plain_plans, plans, node_plans, first_plan, planned}
 use Rattle.loop_words.specs.Told.{Temporaries, no_temporaries, uses, some_use}
 use Rattle.plain_words.proofs.Live.{either, left_in, right_in, before_set, Among, also, among_none, among_more, among_other, join_below, one_below, lives, Fine, end_fine, join_fine}
 use Rattle.plain_words.proofs.Made.{MadeWell, MadesWell, SentWell, AllMade, PlanWell, made_more, mades_more, save_well, save_if_well, leaf_well, leafy_well, logic_well, choice_well, kept_well, if_well, put_well, nothing_well}

@@ -6,9 +6,9 @@ use Rattle.std.proofs.lemmas.Bool.Decides.{nat_tests}
 use Rattle.wp_base.specs.declared.kinds.Kind.{Kind}
 use Rattle.typed_prog.specs.declared.operators.Path.{Path}
 use Rattle.c_runs.specs.Program.{Facts, Function}
-use Rattle.core_runs.specs.Core.{Target, Core, set, store, start, call, branch, repeat, around, exit, give, claim, scope, Cores, end, then_}
-use Rattle.core_checks.specs.Tree.{Goal}
-use Rattle.core_checks.specs.Adding.{goal_of, step_of, steps_of}
+use Rattle.c_runs.specs.Core.{Target, Core, set, store, start, call, branch, repeat, around, exit, give, claim, scope, Cores, end, then_}
+use Rattle.c_runs.specs.Tree.{Goal}
+use Rattle.c_runs.specs.Adding.{goal_of, step_of, steps_of}
 use Rattle.plain_runs.specs.Touched.{is_local, goal_sets, sets, some_sets}
 use Rattle.plain_runs.specs.Fitting.{Shape, LeadsTo, to_local, to_global, Takes, Declares, Receives, by_temporary, by_place, by_variable, with_name, with_names}
 use Rattle.plain_normal.specs.Typed.{IsReceived, none_received, dropped, received, CoreIsTyped, CoresAreTyped}

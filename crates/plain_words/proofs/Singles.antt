@@ -7,10 +7,10 @@ use Rattle.typed_prog.specs.declared.operators.Path.{Path}
 use Rattle.typed_prog.specs.Tree as t
 use Rattle.c_runs.specs.Program.{Variable, Function, Facts, Stmts}
 use Rattle.c_runs.specs.Run.{updating}
-use Rattle.core_runs.specs.Core.{Target, nowhere, place, variable, store, start, call, give, join, one}
-use Rattle.core_checks.specs.Adding.{goal_of}
-use Rattle.normal_stmts.specs.Plans.{Made, Mades, operands, first_plan, planned}
-use Rattle.normal_stmts.specs.Normal.{Did, is_temp, save_unless, dropped, called_into, plain_store, stored, effect_of, started, loop_test, loop_step, given}
+use Rattle.c_runs.specs.Core.{Target, nowhere, place, variable, store, start, call, give, join, one}
+use Rattle.c_runs.specs.Adding.{goal_of}
+use Rattle.c_runs.specs.Plans.{Made, Mades, operands, first_plan, planned}
+use Rattle.c_runs.specs.Normal.{Did, is_temp, save_unless, dropped, called_into, plain_store, stored, effect_of, started, loop_test, loop_step, given}
 use Rattle.plain_runs.specs.Kept.{goal_temp}
 use Rattle.loop_words.specs.Told.{Temporaries, no_temporaries, uses, some_use, goal_uses}
 use Rattle.plain_normal.specs.Plain.{IsPlain, IfWanted}

@@ -15,10 +15,10 @@ use Rattle.typed_prog.specs.Tree as t
 use Rattle.acsl_trees.specs.declared.heads.Head.TheVariants as head
 use Rattle.acsl_trees.specs.Tree as acsl
 use Rattle.c_runs.specs.Program.{Loop, Function, Facts}
-use Rattle.core_runs.specs.Core.{Target, nowhere, temporary, place, variable, Core, set, store, start, call, branch, repeat, around, exit, give, claim, scope, Cores, end, then_}
-use Rattle.core_checks.specs.Tree as checked
-use Rattle.core_checks.specs.Tree.{Goal, Steps}
-use Rattle.core_checks.specs.Adding.{goal_of, step_of, steps_of, function_of}
+use Rattle.c_runs.specs.Core.{Target, nowhere, temporary, place, variable, Core, set, store, start, call, branch, repeat, around, exit, give, claim, scope, Cores, end, then_}
+use Rattle.c_runs.specs.Tree as checked
+use Rattle.c_runs.specs.Tree.{Goal, Steps}
+use Rattle.c_runs.specs.Adding.{goal_of, step_of, steps_of, function_of}
 use Rattle.plain_states.specs.Slots.{value_slot, local_value, local_flag, temp_slot}
 use Rattle.plain_states.specs.Scopes.{is_integer}
 use Rattle.plain_runs.specs.Fitting as fitting

@@ -4,9 +4,9 @@ use Rattle.std.proofs.lemmas.Bool.{and_parts}
 use Rattle.wp_base.specs.declared.kinds.CellKind.{CellKind}
 use Rattle.typed_prog.specs.Tree as t
 use Rattle.c_runs.specs.Program.{Variable, Function, Facts, Loop, Stmt, evaluate, block, initial, choose, loop, switch, case_of, default, break, continue, return_of, assert, Stmts, stop, more}
-use Rattle.core_runs.specs.Core.{repeat, around, exit, claim, scope, Cores, end, then_, join, one}
-use Rattle.normal_stmts.specs.Plans.{Tests, condition, next_of, planned}
-use Rattle.normal_stmts.specs.Normal.{Did, is_settled, save_unless, effect_of, started, loop_test, loop_step, given, dispatch, up, loop_body, stmt, stmts, groups}
+use Rattle.c_runs.specs.Core.{repeat, around, exit, claim, scope, Cores, end, then_, join, one}
+use Rattle.c_runs.specs.Plans.{Tests, condition, next_of, planned}
+use Rattle.c_runs.specs.Normal.{Did, is_settled, save_unless, effect_of, started, loop_test, loop_step, given, dispatch, up, loop_body, stmt, stmts, groups}
 use Rattle.plain_runs.specs.Fitting.{with_names}
 use Rattle.loop_words.specs.Told.{Temporaries, no_temporaries, uses}
 use Rattle.plain_normal.specs.Plain.{up_to, StmtIsPlain, StmtsArePlain}

@@ -6,9 +6,9 @@ use Rattle.typed_prog.specs.Tree as t
 use Rattle.qed_terms.specs.Operators.{is_equal}
 use Rattle.c_runs.specs.Program.{Variable, Stmt, evaluate, block, initial, choose, loop, switch, case_of, default, break, continue, return_of, assert, Stmts, stop, more}
 use Rattle.c_runs.specs.Run.{is_case, is_default}
-use Rattle.core_runs.specs.Core.{around, Cores, join}
-use Rattle.normal_stmts.specs.Plans.{condition, next_of, planned}
-use Rattle.normal_stmts.specs.Normal.{Did, is_settled, save_unless, is_label, whole_switch, close, truth_of, label_test, index_of, dispatch, up, stmt, stmts, groups}
+use Rattle.c_runs.specs.Core.{around, Cores, join}
+use Rattle.c_runs.specs.Plans.{condition, next_of, planned}
+use Rattle.c_runs.specs.Normal.{Did, is_settled, save_unless, is_label, whole_switch, close, truth_of, label_test, index_of, dispatch, up, stmt, stmts, groups}
 use Rattle.loop_words.specs.Told.{Temporaries, no_temporaries, uses, some_use, out_at}
 use Rattle.plain_words.proofs.Live.{either, Among, count_in, join_below, one_below, Reaches, lives, Fine, join_fine, around_fine, exit_fine}
 

@@ -17,8 +17,8 @@ use Rattle.typed_prog.specs.Tree as t
 use Rattle.c_runs.specs.Program.{Facts}
 use Rattle.c_runs.specs.Objects.{plain_root, is_plain_in, is_pointed}
 use Rattle.c_runs.specs.Operators.{access}
-use Rattle.rte_checks.specs.Checks.{all_checks, index_checks, one_if}
-use Rattle.core_checks.specs.Adding.{way_checks, way_checks_by, place_checks}
+use Rattle.c_runs.specs.Checks.{all_checks, index_checks, one_if}
+use Rattle.c_runs.specs.Adding.{way_checks, way_checks_by, place_checks}
 use Rattle.plain_states.specs.Scopes.{is_integer, are_one_integer}
 use Rattle.plain_states.proofs.Scoping.{listed_integer}
 use Rattle.plain_runs.specs.Fitting.{Shape, LeadsTo, to_local, to_global}

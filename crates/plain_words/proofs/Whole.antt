@@ -4,10 +4,10 @@ use Rattle.std.proofs.lemmas.Bool.{false≢true}
 use Rattle.wp_base.specs.declared.kinds.Kind.{Kind}
 use Rattle.wp_base.specs.declared.kinds.Kind.TheVariants as kind
 use Rattle.c_runs.specs.Program.{Stmts, Function, Program}
-use Rattle.core_runs.specs.Core.{Cores}
-use Rattle.core_checks.specs.Tree.{Steps}
-use Rattle.core_checks.specs.Adding.{steps_of, function_of, add_checks}
-use Rattle.normal_stmts.specs.Normal.{stmts, normal_function, normal}
+use Rattle.c_runs.specs.Core.{Cores}
+use Rattle.c_runs.specs.Tree.{Steps}
+use Rattle.c_runs.specs.Adding.{steps_of, function_of, add_checks}
+use Rattle.c_runs.specs.Normal.{stmts, normal_function, normal}
 use Rattle.plain_states.proofs.Scoping.{none_some}
 use Rattle.plain_states.proofs.Calling.{some_same}
 use Rattle.plain_runs.specs.Fitting.{shape_of, is_param}

@@ -2,9 +2,9 @@
 use Rattle.std.specs.Prelude.{◌≡◌, ℕ, true, false, [], Some}
 use Rattle.wp_base.specs.declared.kinds.Kind.{Kind}
 use Rattle.c_runs.specs.Program.{Stmts, Function, Program}
-use Rattle.normal_stmts.specs.Normal.{normal}
-use Rattle.core_checks.specs.Adding.{add_checks}
-use Rattle.core_checks.specs.Tree.{Steps}
+use Rattle.c_runs.specs.Normal.{normal}
+use Rattle.c_runs.specs.Adding.{add_checks}
+use Rattle.c_runs.specs.Tree.{Steps}
 use Rattle.plain_runs.specs.Fitting.{shape_of, is_param}
 use Rattle.loop_words.specs.Told.{no_temporaries}
 use Rattle.plain_normal.specs.Plain.{IsPlainProgram}

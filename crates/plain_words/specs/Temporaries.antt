@@ -1,6 +1,6 @@
 -- How many temporaries a function has: one more than the greatest number of one that is set, and none where none is set.
 use Rattle.std.specs.Prelude.{ℕ, suc, nat_lt, if◌then◌else◌}
-use Rattle.core_checks.specs.Tree.{Goal, temporary, Step, set, store, start, call, branch, repeat, around, exit, give, claim, scope, Steps, end, then_}
+use Rattle.c_runs.specs.Tree.{Goal, temporary, Step, set, store, start, call, branch, repeat, around, exit, give, claim, scope, Steps, end, then_}
 
 abbrev pub greater : ℕ → ℕ → ℕ
 greater n k = if nat_lt n k then k else n

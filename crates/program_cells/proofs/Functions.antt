@@ -7,7 +7,7 @@ use Rattle.acsl_expand.specs.Expansion.{view_meant, view_all}
 use Rattle.checked_trees.specs.declared.files.CheckedFunction.{CheckedFunction}
 use Rattle.checked_trees.specs.View.{view_checked_function}
 use Rattle.c_runs.specs.Program.{Program, Facts}
-use Rattle.core_checks.specs.Tree.{Steps}
+use Rattle.c_runs.specs.Tree.{Steps}
 use Rattle.program_trees.specs.Files.{at}
 use Rattle.typed_unit.specs.Unit as u
 use Rattle.typed_unit.specs.declared.unit.Body.{Body}

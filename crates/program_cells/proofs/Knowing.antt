@@ -7,7 +7,7 @@ use Rattle.wp_base.specs.Kinds.{cell_place}
 use Rattle.acsl_expand.specs.Expansion.{Definition}
 use Rattle.typed_unit.specs.Unit as u
 use Rattle.c_runs.specs.Program.{Function, Program}
-use Rattle.core_checks.specs.Tree.{Steps}
+use Rattle.c_runs.specs.Tree.{Steps}
 use Rattle.memory_words.specs.Shapes.{FileCells}
 use Rattle.program_cells.specs.Parts.{Part, blocks, of_kind, is_blocks, is_of_kind, is_part_of, cells_among, AreKnown}
 use Rattle.program_cells.specs.Trees.{tree_parts}

@@ -8,8 +8,8 @@ use Rattle.typed_prog.specs.declared.operators.Path.{Path}
 use Rattle.typed_prog.specs.Tree as t
 use Rattle.c_runs.specs.Program.{Variable, Loop, Facts}
 use Rattle.c_runs.specs.Objects.{cell_of}
-use Rattle.rte_checks.specs.Checks.{Check}
-use Rattle.core_checks.specs.Tree as core
+use Rattle.c_runs.specs.Checks.{Check}
+use Rattle.c_runs.specs.Tree as core
 use Rattle.program_cells.specs.Parts.{Part}
 use Rattle.program_cells.specs.Trees.{Declared}
 use Rattle.program_cells.specs.Programs.{place_parts, value_parts, values_parts, written_parts, loop_parts, step_parts, steps_parts}

@@ -2,7 +2,7 @@
 use Rattle.std.specs.Prelude.{◌≡◌, ℕ, true, [], Some, slice_get}
 use Rattle.typed_unit.specs.Unit as u
 use Rattle.c_runs.specs.Program.{Function, Program}
-use Rattle.core_checks.specs.Tree.{Steps}
+use Rattle.c_runs.specs.Tree.{Steps}
 use Rattle.acsl_expand.specs.Expansion.{Definition}
 use Rattle.program_cells.specs.Parts.{AreKnown}
 use Rattle.program_cells.specs.Trees.{tree_parts}

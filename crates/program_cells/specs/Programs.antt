@@ -16,8 +16,8 @@ use Rattle.c_scopes.specs.declared.symbols.Signature.{Signature}
 use Rattle.typed_unit.specs.Unit as u
 use Rattle.c_runs.specs.Program.{Variable, Claim, Measure, Behavior, Contract, Loop, Function, Facts, Program}
 use Rattle.c_runs.specs.Objects.{is_plain_in, cell_of}
-use Rattle.core_checks.specs.Tree as core
-use Rattle.core_checks.specs.Tree.{Goal, Steps}
+use Rattle.c_runs.specs.Tree as core
+use Rattle.c_runs.specs.Tree.{Goal, Steps}
 use Rattle.value_terms.specs.Typed.{kind_given}
 use Rattle.memory_words.specs.Shapes.{FileCells, kind_of}
 use Rattle.program_cells.specs.Parts.{Part, blocks, of_kind, type_parts, cells_among}

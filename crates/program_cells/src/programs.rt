@@ -3,7 +3,7 @@ ghost use Rattle.std.specs.Prelude.{◌≡◌, map, slice_get, None, IfOk, OnOk}
 ghost use Rattle.std.specs.Option.{option_map};
 ghost use Rattle.acsl_expand.specs.Expansion.{view_meant};
 ghost use Rattle.c_runs.specs.Program.{Program};
-ghost use Rattle.core_checks.specs.Tree.{Steps};
+ghost use Rattle.c_runs.specs.Tree.{Steps};
 ghost use Rattle.memory_words.specs.Shapes as shapes;
 ghost use Rattle.program_trees.specs.Files.{at};
 ghost use Rattle.typed_unit.specs.Unit as u;

@@ -18,8 +18,8 @@ use Rattle.qed_terms.specs.Names.{is_name}
 use Rattle.c_runs.specs.Program as program
 use Rattle.c_runs.specs.Program.{Claim, Measure, Behavior, Contract, Function, Facts}
 use Rattle.c_runs.specs.Claims as broken
-use Rattle.rte_checks.specs.Checks.{Check as CheckOf}
-use Rattle.core_checks.specs.Tree.{Goal, nowhere, temporary, place, variable, Steps}
+use Rattle.c_runs.specs.Checks.{Check as CheckOf}
+use Rattle.c_runs.specs.Tree.{Goal, nowhere, temporary, place, variable, Steps}
 use Rattle.plain_states.specs.Slots.{value_slot, local_value, local_flag, answer_slot, temp_slot}
 use Rattle.plain_states.specs.Scopes.{kind_of}
 use Rattle.plain_runs.specs.Fitting.{Shape, sizes}

@@ -1,7 +1,7 @@
 -- Goals are exact, each at its own check.
 use Rattle.std.proofs.Common.{◌≡◌, ℕ, List, [], refl, sym, subst}
 use Rattle.std.specs.Prelude.{Some}
-use Rattle.acsl_truth.specs.States.{Value}
+use Rattle.c_runs.specs.TruthStates.{Value}
 use Rattle.qed_terms.specs.Meaning as sense
 use Rattle.qed_terms.specs.Setting.{Setting, world_of}
 use Rattle.c_runs.specs.Program.{Function, Facts, Program}
@@ -9,7 +9,7 @@ use Rattle.c_runs.specs.States.{World}
 use Rattle.c_runs.specs.Claims.{Stop}
 use Rattle.c_runs.specs.Calls.{Eval, gives, stops}
 use Rattle.c_runs.specs.Entry.{Enters}
-use Rattle.core_checks.specs.Tree.{Steps}
+use Rattle.c_runs.specs.Tree.{Steps}
 use Rattle.goal_segments.specs.Segments.{FunctionSeg}
 use Rattle.plain_states.specs.Slots.{State}
 use Rattle.plain_runs.specs.Fitting.{Shape}

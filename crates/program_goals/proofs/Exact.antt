@@ -7,7 +7,7 @@ use Rattle.qed_terms.specs.Setting.{Setting, world_of, Valid}
 use Rattle.c_runs.specs.Program.{Function, Program}
 use Rattle.c_runs.specs.Claims.{Stop}
 use Rattle.c_runs.specs.Calls.{stops}
-use Rattle.core_checks.specs.Tree.{Steps}
+use Rattle.c_runs.specs.Tree.{Steps}
 use Rattle.walk_steps.specs.State.{In}
 use Rattle.walk_steps.specs.Forms.{Place}
 use Rattle.walk_steps.specs.Step.{Step, places}

@@ -9,7 +9,7 @@ use Rattle.qed_terms.specs.Tree.{Tree, false_tree, and_of, or_of}
 use Rattle.qed_terms.specs.Names.{is_name}
 use Rattle.c_runs.specs.Program as program
 use Rattle.c_runs.specs.Program.{Claim, Behavior, Together, Contract, Function, Facts}
-use Rattle.core_checks.specs.Tree.{Steps}
+use Rattle.c_runs.specs.Tree.{Steps}
 use Rattle.plain_states.specs.Slots.{value_slot, local_value, local_flag, result_slot, temp_slot}
 use Rattle.plain_states.specs.Scopes.{kind_of}
 use Rattle.plain_runs.specs.Fitting.{Shape, sizes}

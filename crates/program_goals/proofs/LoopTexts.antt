@@ -9,7 +9,7 @@ use Rattle.qed_terms.specs.Tree.{Tree, num, false_tree, at_most, less, imp_of}
 use Rattle.qed_terms.specs.WellFormed.{fits, int}
 use Rattle.c_runs.specs.Program.{Variable, Claim, Measure, Behavior, Contract, Loop, Facts}
 use Rattle.c_runs.specs.Claims as broken
-use Rattle.core_checks.specs.Tree.{Steps}
+use Rattle.c_runs.specs.Tree.{Steps}
 use Rattle.plain_states.specs.Slots.{value_slot}
 use Rattle.plain_states.specs.Scopes.{kind_of}
 use Rattle.plain_runs.specs.Fitting.{Shape}

@@ -4,7 +4,7 @@ use Rattle.qed_terms.specs.Meaning as sense
 use Rattle.qed_terms.specs.Tree.{Tree}
 use Rattle.qed_terms.specs.Setting.{Setting, world_of}
 use Rattle.c_runs.specs.Program.{Function, Program}
-use Rattle.core_checks.specs.Tree.{Steps}
+use Rattle.c_runs.specs.Tree.{Steps}
 use Rattle.program_steps.specs.Terms.{Texts}
 use Rattle.program_steps.specs.Placed.{InSetting}
 use Rattle.program_steps.specs.Others.{OthersRun}

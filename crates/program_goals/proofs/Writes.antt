@@ -14,9 +14,9 @@ use Rattle.c_runs.specs.Program as program
 use Rattle.c_runs.specs.Program.{Claim, Behavior, Together, Contract, Function, Loop, Facts}
 use Rattle.c_runs.specs.Claims as broken
 use Rattle.c_runs.specs.Claims.{in_order}
-use Rattle.rte_checks.specs.Checks.{Check as CheckOf}
-use Rattle.core_checks.specs.Tree as core
-use Rattle.core_checks.specs.Tree.{Goal, Steps}
+use Rattle.c_runs.specs.Checks.{Check as CheckOf}
+use Rattle.c_runs.specs.Tree as core
+use Rattle.c_runs.specs.Tree.{Goal, Steps}
 use Rattle.plain_states.specs.Slots.{Sizes, value_slot, flag_slot, temp_slot}
 use Rattle.plain_runs.specs.Fitting.{Shape, sizes, is_param, with_names}
 use Rattle.value_terms.specs.Readings.{Term, as_number, as_test, as_pointer, number_term, term_fits}

@@ -26,7 +26,7 @@ use Rattle.c_runs.specs.Program as program
 use Rattle.c_runs.specs.Program.{Claim, Behavior, Contract, Loop, Function, Facts, Program}
 use Rattle.c_runs.specs.Operators.{overflow}
 use Rattle.c_runs.specs.Claims as broken
-use Rattle.core_checks.specs.Tree.{place, Steps, start, store, call, branch, repeat, around, exit, give, scope, end, then_}
+use Rattle.c_runs.specs.Tree.{place, Steps, start, store, call, branch, repeat, around, exit, give, scope, end, then_}
 use Rattle.walk_steps.specs.Forms.{Place}
 use Rattle.walk_steps.specs.Walk.{Goal}
 use Rattle.program_steps.specs.Stops.{undefined_place, broken_place, kept_place}

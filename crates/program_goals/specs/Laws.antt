@@ -1,6 +1,6 @@
 -- What goals say of runs.
 use Rattle.std.specs.Prelude.{◌≡◌, ℕ, zero, Bool, true, false, List, [], map, Some}
-use Rattle.acsl_truth.specs.States.{Value}
+use Rattle.c_runs.specs.TruthStates.{Value}
 use Rattle.qed_terms.specs.Meaning as sense
 use Rattle.qed_terms.specs.Setting.{Setting, world_of, Valid}
 use Rattle.c_runs.specs.Program.{Contract, Stmts, Function, Facts, Program}
@@ -10,9 +10,9 @@ use Rattle.c_runs.specs.Calls.{Eval, stops}
 use Rattle.c_runs.specs.Entry.{Enters}
 use Rattle.c_runs.specs.Run as spelled
 use Rattle.c_runs.specs.Allowed.{MayChange}
-use Rattle.normal_stmts.specs.Normal.{normal}
-use Rattle.core_checks.specs.Adding.{add_checks}
-use Rattle.core_checks.specs.Tree.{Steps}
+use Rattle.c_runs.specs.Normal.{normal}
+use Rattle.c_runs.specs.Adding.{add_checks}
+use Rattle.c_runs.specs.Tree.{Steps}
 use Rattle.goal_segments.specs.Segments.{FunctionSeg}
 use Rattle.goal_segments.specs.Laws.{IsClosed, NoneFails, GoesWell}
 use Rattle.plain_states.specs.Slots.{State}

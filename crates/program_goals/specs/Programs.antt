@@ -3,7 +3,7 @@ use Rattle.std.specs.Prelude.{◌≡◌, ℕ, Bool, true, List, length, Some}
 use Rattle.c_kinds.specs.Models.{long_bits}
 use Rattle.qed_terms.specs.Setting.{Setting, world_of, Valid}
 use Rattle.c_runs.specs.Program.{Function, Program}
-use Rattle.core_checks.specs.Tree.{Steps}
+use Rattle.c_runs.specs.Tree.{Steps}
 use Rattle.plain_runs.specs.Fitting.{FitsProgram}
 use Rattle.walk_steps.specs.State.{In}
 use Rattle.walk_steps.specs.World.{AreBases}

@@ -3,7 +3,7 @@ use Rattle.std.specs.Prelude.{ℕ, List}
 use Rattle.wp_base.specs.declared.kinds.Kind.{Kind}
 use Rattle.qed_terms.specs.Meaning as sense
 use Rattle.c_runs.specs.Program.{Function, Program}
-use Rattle.core_checks.specs.Tree.{Steps}
+use Rattle.c_runs.specs.Tree.{Steps}
 use Rattle.plain_runs.specs.Fitting.{Shape, shape_of}
 use Rattle.walk_steps.specs.Step.{Step}
 use Rattle.walk_steps.specs.Laws.{Start}

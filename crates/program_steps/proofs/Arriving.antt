@@ -6,14 +6,14 @@ use Rattle.std.proofs.lemmas.Bool.{false≢true, and_parts, ltb-true, ltb-false,
 use Rattle.wp_base.specs.declared.kinds.Kind.{Kind}
 use Rattle.c_kinds.specs.Models.{holds}
 use Rattle.qed_terms.specs.Operators.{is_equal}
-use Rattle.acsl_truth.specs.States.{Value, number}
+use Rattle.c_runs.specs.TruthStates.{Value, number}
 use Rattle.c_runs.specs.Program.{Variable, Function, Facts}
 use Rattle.c_runs.specs.States.{Local, Memory, World, plain, unset, no_locals, held_by, hidden, params_from, block_of_local, seen_by_contract, plain_globals}
 use Rattle.c_runs.specs.States as states
 use Rattle.c_runs.specs.Scopes.{arrived}
 use Rattle.c_runs.specs.Entry.{are_arguments}
-use Rattle.core_runs.specs.Run.{CoreWorld, begun}
-use Rattle.core_checks.specs.Tree.{Steps}
+use Rattle.c_runs.specs.CoreRun.{CoreWorld, begun}
+use Rattle.c_runs.specs.Tree.{Steps}
 use Rattle.plain_states.specs.Slots.{State, at, held, value_slot, local_value, local_flag, temp_slot, world_in, core_in, memory_in}
 use Rattle.plain_states.specs.Scopes.{is_integer, kind_of, entry_state}
 use Rattle.plain_states.proofs.Lists.{double_is, value_before}

@@ -6,8 +6,8 @@ use Rattle.qed_terms.specs.Meaning as sense
 use Rattle.qed_terms.specs.Meaning.{truth}
 use Rattle.qed_terms.specs.Tree.{Tree}
 use Rattle.c_runs.specs.Claims.{Stop, undefined}
-use Rattle.rte_checks.specs.Checks.{Check}
-use Rattle.segments.specs.Segments.{Asks, all_met, met, unmet}
+use Rattle.c_runs.specs.Checks.{Check}
+use Rattle.goal_segments.specs.RunSegments.{Asks, all_met, met, unmet}
 use Rattle.value_terms.specs.Words.{Item, asked, known, checks_in, formula_of}
 use Rattle.value_terms.specs.Laws.{Says}
 use Rattle.walk_steps.specs.State.{State}

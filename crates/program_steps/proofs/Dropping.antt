@@ -5,11 +5,11 @@ use Rattle.wp_base.specs.Blocks.{Table}
 use Rattle.qed_terms.specs.Meaning as sense
 use Rattle.qed_terms.specs.Tree.{num}
 use Rattle.c_runs.specs.Program.{Contract, Facts, Program}
-use Rattle.core_runs.specs.Run as run
-use Rattle.core_runs.specs.Run.{CoreWorld, Ending}
-use Rattle.core_checks.specs.Tree.{Steps}
-use Rattle.segments.specs.Segments as segment
-use Rattle.segments.specs.Segments.{BlockEnds, Leaves, by_exit, by_return, by_stop}
+use Rattle.c_runs.specs.CoreRun as run
+use Rattle.c_runs.specs.CoreRun.{CoreWorld, Ending}
+use Rattle.c_runs.specs.Tree.{Steps}
+use Rattle.goal_segments.specs.RunSegments as segment
+use Rattle.goal_segments.specs.RunSegments.{BlockEnds, Leaves, by_exit, by_return, by_stop}
 use Rattle.plain_states.specs.Slots.{State, at, result_slot, temp_slot}
 use Rattle.plain_states.proofs.Lists.{put_elsewhere}
 use Rattle.goal_segments.specs.Told.{Shape, sizes}

@@ -8,12 +8,12 @@ use Rattle.qed_terms.specs.Tree.{Tree}
 use Rattle.wp_base.specs.Blocks.{Table}
 use Rattle.c_runs.specs.Program.{Facts}
 use Rattle.c_runs.specs.Claims.{Stop, undefined}
-use Rattle.core_runs.specs.Run as run
-use Rattle.core_runs.specs.Run.{Ending, stopped, unless}
-use Rattle.rte_checks.specs.Checks.{Check}
-use Rattle.core_checks.specs.Run as core
-use Rattle.segments.specs.Segments.{Asks, all_met, met, unmet}
-use Rattle.segments.proofs.Agreeing.{asks_asked}
+use Rattle.c_runs.specs.CoreRun as run
+use Rattle.c_runs.specs.CoreRun.{Ending, stopped, unless}
+use Rattle.c_runs.specs.Checks.{Check}
+use Rattle.c_runs.specs.CheckedRun as core
+use Rattle.goal_segments.specs.RunSegments.{Asks, all_met, met, unmet}
+use Rattle.goal_segments.proofs.Agreeing.{asks_asked}
 use Rattle.plain_states.specs.Slots.{State}
 use Rattle.goal_segments.specs.Told.{Shape}
 use Rattle.value_terms.specs.Words.{Item, checks_in}

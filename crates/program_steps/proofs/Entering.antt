@@ -7,8 +7,8 @@ use Rattle.wp_base.specs.declared.kinds.CellKind.{CellKind}
 use Rattle.wp_base.specs.declared.kinds.Kind.{Kind}
 use Rattle.wp_base.specs.Blocks.{Table, block_at, has_cell, is_cell, len}
 use Rattle.c_kinds.specs.Models.{low, high, holds, difference_kind}
-use Rattle.acsl_truth.specs.States as labelled
-use Rattle.acsl_truth.specs.States.{Value, number}
+use Rattle.c_runs.specs.TruthStates as labelled
+use Rattle.c_runs.specs.TruthStates.{Value, number}
 use Rattle.qed_terms.specs.Meaning as sense
 use Rattle.qed_terms.specs.Meaning.{truth}
 use Rattle.qed_terms.specs.Setting.{Setting, world_of}
@@ -20,7 +20,7 @@ use Rattle.c_runs.specs.Claims.{Stop, at_entry, is_assumed, is_required, all_hol
 use Rattle.c_runs.specs.Calls.{Eval, gives, stops}
 use Rattle.c_runs.specs.Scopes.{scalar_of}
 use Rattle.c_runs.specs.Entry.{IsWellFormed, is_value, is_placed, Enters, are_arguments, all_lead_well}
-use Rattle.core_checks.specs.Tree.{Steps}
+use Rattle.c_runs.specs.Tree.{Steps}
 use Rattle.goal_segments.specs.Segments.{FunctionSeg}
 use Rattle.plain_states.specs.Slots.{State, at, held, double, value_slot, flag_slot, local_value, local_flag, temp_slot, memory_in}
 use Rattle.plain_states.specs.Scopes.{is_integer, are_one_integer, kind_of}

@@ -12,7 +12,7 @@ use Rattle.c_runs.specs.Program as program
 use Rattle.c_runs.specs.Program.{Claim, Behavior, Together, Contract, Loop, Facts}
 use Rattle.c_runs.specs.Claims as broken
 use Rattle.c_runs.specs.Claims.{in_order}
-use Rattle.core_checks.specs.Tree as core
+use Rattle.c_runs.specs.Tree as core
 use Rattle.plain_states.specs.Slots.{Sizes, value_slot, flag_slot, temp_slot}
 use Rattle.goal_segments.specs.Told.{Shape, sizes}
 use Rattle.value_terms.specs.Readings.{condition}

@@ -8,7 +8,7 @@ use Rattle.wp_base.specs.declared.kinds.CellKind.{CellKind}
 use Rattle.wp_base.specs.declared.kinds.CellKind.TheVariants as cell
 use Rattle.wp_base.specs.Blocks.{Table, Block, ended, count, to_nat, or_ended, block_at, block_cells, has_cell, is_cell, len, endeds, grow}
 use Rattle.c_kinds.specs.Models.{high, difference_kind}
-use Rattle.acsl_truth.specs.States.{Value, number, pointer, addresses, region}
+use Rattle.c_runs.specs.TruthStates.{Value, number, pointer, addresses, region}
 use Rattle.c_runs.specs.Program.{Variable, Facts}
 use Rattle.c_runs.specs.States.{Memory, plain_globals}
 use Rattle.c_runs.specs.Scopes.{scalar_of, ended_since}

@@ -10,11 +10,11 @@ use Rattle.wp_base.specs.Blocks.{Table, count, block_at}
 use Rattle.c_kinds.specs.Models.{holds}
 use Rattle.qed_terms.specs.Meaning as sense
 use Rattle.qed_terms.specs.Tree.{num}
-use Rattle.acsl_truth.specs.States.{Value, number, nothing_of}
+use Rattle.c_runs.specs.TruthStates.{Value, number, nothing_of}
 use Rattle.c_runs.specs.Program.{Variable, Facts}
 use Rattle.c_runs.specs.States.{Memory, World, plain, with_local, with_memory, unset}
 use Rattle.c_runs.specs.Scopes.{scalar_of, variable_made, plain_made, ended_since, without_locals, left}
-use Rattle.core_runs.specs.Run.{CoreWorld, in_world}
+use Rattle.c_runs.specs.CoreRun.{CoreWorld, in_world}
 use Rattle.goal_segments.specs.Segments.{SameBlocks, IsAny, Opened, all_opened, unknown, with_value, not_set, with_cells}
 use Rattle.plain_states.specs.Slots.{State, at, value_slot, flag_slot, local_value, local_flag, result_slot, with_variable}
 use Rattle.plain_states.specs.Slots as slots

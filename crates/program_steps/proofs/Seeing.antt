@@ -4,10 +4,10 @@ use Rattle.std.specs.Prelude.{nat_lt}
 use Rattle.std.specs.List.{list_all}
 use Rattle.std.proofs.lemmas.Bool.{false≢true, lt-ltb, false_from_ne_true, ltb-true}
 use Rattle.wp_base.specs.Blocks.{Table}
-use Rattle.acsl_truth.specs.States.{Value, number}
+use Rattle.c_runs.specs.TruthStates.{Value, number}
 use Rattle.c_runs.specs.Program.{Variable, Facts}
 use Rattle.c_runs.specs.States.{World, seen, held_by, block_of_local, plain_globals, hidden}
-use Rattle.core_runs.specs.Run.{CoreWorld}
+use Rattle.c_runs.specs.CoreRun.{CoreWorld}
 use Rattle.plain_states.specs.Slots.{State, at, value_slot, local_value}
 use Rattle.plain_states.specs.Scopes.{is_integer}
 use Rattle.plain_states.proofs.Scoping.{found_below}

@@ -9,13 +9,13 @@ use Rattle.wp_base.specs.declared.kinds.CellKind.TheVariants as cell
 use Rattle.wp_base.specs.Blocks.{Table, is_cell}
 use Rattle.c_kinds.specs.Models.{holds}
 use Rattle.qed_terms.specs.Operators.{is_equal}
-use Rattle.acsl_truth.specs.States.{Value, number}
+use Rattle.c_runs.specs.TruthStates.{Value, number}
 use Rattle.c_runs.specs.Program.{Variable, Facts}
 use Rattle.c_runs.specs.States.{Memory, World, Local, plain, with_local, with_memory, stored_in, with_cell, global_home, plain_globals}
 use Rattle.c_runs.specs.States as states
 use Rattle.c_runs.specs.Scopes.{scalar_of}
 use Rattle.c_runs.specs.Entry.{is_value, is_placed, is_home, leads_well}
-use Rattle.core_runs.specs.Run.{CoreWorld, in_world, with_temp}
+use Rattle.c_runs.specs.CoreRun.{CoreWorld, in_world, with_temp}
 use Rattle.plain_states.specs.Slots.{State, at, value_slot, flag_slot, local_value, local_flag, result_slot, temp_slot, with_variable}
 use Rattle.plain_states.specs.Slots as slots
 use Rattle.plain_states.specs.Scopes.{is_integer, kind_of}

@@ -18,8 +18,8 @@ use Rattle.typed_prog.specs.declared.operators.Variable.TheVariants as variables
 use Rattle.typed_prog.specs.Tree as t
 use Rattle.qed_terms.specs.Meaning as sense
 use Rattle.qed_terms.specs.Tree.{Tree, num}
-use Rattle.acsl_truth.specs.States.{Value, number}
-use Rattle.acsl_truth.specs.States as labelled
+use Rattle.c_runs.specs.TruthStates.{Value, number}
+use Rattle.c_runs.specs.TruthStates as labelled
 use Rattle.c_runs.specs.Program.{Variable, Contract, Facts, Function, Program, Claim}
 use Rattle.c_runs.specs.States.{World, Here, plain, with_local, with_memory, stored_in, home_of}
 use Rattle.c_runs.specs.Claims as broken
@@ -28,15 +28,15 @@ use Rattle.c_runs.specs.Effects as effects
 use Rattle.c_runs.specs.Effects.{granted, wrote_act, initial_act}
 use Rattle.c_runs.specs.Calls.{nought}
 use Rattle.c_runs.specs.Objects.{plain_root, is_plain_in, cell_of, along, start as start_at, address}
-use Rattle.core_runs.specs.Run as run
-use Rattle.core_runs.specs.Run.{CoreWorld, Ending, stopped, with_eval, in_world, with_temp}
-use Rattle.rte_checks.specs.Checks as rte
-use Rattle.rte_checks.specs.Checks.{Check, checks_of, all_checks, in_operand}
-use Rattle.core_checks.specs.Tree as core
-use Rattle.core_checks.specs.Tree.{Steps}
-use Rattle.core_checks.specs.Run as exec
-use Rattle.core_checks.specs.Run.{place_test}
-use Rattle.segments.specs.Segments.{Asks, all_met, met, unmet}
+use Rattle.c_runs.specs.CoreRun as run
+use Rattle.c_runs.specs.CoreRun.{CoreWorld, Ending, stopped, with_eval, in_world, with_temp}
+use Rattle.c_runs.specs.Checks as rte
+use Rattle.c_runs.specs.Checks.{Check, checks_of, all_checks, in_operand}
+use Rattle.c_runs.specs.Tree as core
+use Rattle.c_runs.specs.Tree.{Steps}
+use Rattle.c_runs.specs.CheckedRun as exec
+use Rattle.c_runs.specs.CheckedRun.{place_test}
+use Rattle.goal_segments.specs.RunSegments.{Asks, all_met, met, unmet}
 use Rattle.goal_segments.specs.Segments as segs
 use Rattle.goal_segments.specs.Segments.{is_single, no_deeper}
 use Rattle.plain_states.specs.Slots.{State, at, value_slot, flag_slot, local_value, result_slot, temp_slot, with_variable}

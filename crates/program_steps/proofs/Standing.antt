@@ -13,13 +13,13 @@ use Rattle.typed_prog.specs.Tree as t
 use Rattle.qed_terms.specs.Meaning as sense
 use Rattle.qed_terms.specs.Meaning.{Values}
 use Rattle.qed_terms.specs.Operators.{is_zero, is_equal}
-use Rattle.acsl_truth.specs.States.{Value, number, pointer, addresses, region}
+use Rattle.c_runs.specs.TruthStates.{Value, number, pointer, addresses, region}
 use Rattle.c_runs.specs.Program.{Variable, Facts}
 use Rattle.c_runs.specs.States.{Memory, World, Local, plain, global_home, held_by}
 use Rattle.c_runs.specs.Scopes.{is_content, scalar_of}
 use Rattle.c_runs.specs.Entry.{is_value, leads_well, is_placed}
-use Rattle.core_runs.specs.Run.{CoreWorld}
-use Rattle.rte_checks.specs.Tests.{is_set_by}
+use Rattle.c_runs.specs.CoreRun.{CoreWorld}
+use Rattle.c_runs.specs.Tests.{is_set_by}
 use Rattle.plain_states.specs.Slots.{State, at, value_slot, local_value, local_flag, temp_slot}
 use Rattle.plain_states.specs.Scopes.{is_integer, are_one_integer, kind_in, kind_of}
 use Rattle.plain_states.proofs.Scoping.{listed_integer, cell_of_integer}

@@ -6,8 +6,8 @@ use Rattle.std.proofs.lemmas.Bool.{false≢true, and_parts}
 use Rattle.wp_base.specs.declared.kinds.Kind.{Kind}
 use Rattle.c_kinds.specs.Models.{low, high, holds}
 use Rattle.acsl_trees.specs.Tree as acsl
-use Rattle.acsl_truth.specs.States as labelled
-use Rattle.acsl_truth.specs.States.{Value, number}
+use Rattle.c_runs.specs.TruthStates as labelled
+use Rattle.c_runs.specs.TruthStates.{Value, number}
 use Rattle.qed_terms.specs.Meaning as sense
 use Rattle.qed_terms.specs.Meaning.{Values, truth}
 use Rattle.qed_terms.specs.Tree.{Tree, num, at_most}
@@ -16,7 +16,7 @@ use Rattle.c_runs.specs.States.{World}
 use Rattle.c_runs.specs.Claims as broken
 use Rattle.c_runs.specs.Claims.{at_entry, is_assumed, is_required, all_hold, unless_true, parts_of}
 use Rattle.c_runs.specs.Entry.{Enters}
-use Rattle.core_checks.specs.Tree.{Steps}
+use Rattle.c_runs.specs.Tree.{Steps}
 use Rattle.plain_states.specs.Slots.{State, at, double, value_slot, flag_slot, local_value, local_flag, temp_slot}
 use Rattle.plain_states.specs.Scopes.{is_integer, kind_of, zeros, first_slots, argument_slots}
 use Rattle.plain_states.proofs.Lists.{double_is}

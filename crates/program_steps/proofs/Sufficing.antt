@@ -4,7 +4,7 @@ use Rattle.std.specs.List.{list_all}
 use Rattle.std.proofs.lemmas.Bool.{false≢true}
 use Rattle.wp_base.specs.declared.kinds.Kind.{Kind}
 use Rattle.c_kinds.specs.Models.{holds}
-use Rattle.acsl_truth.specs.States.{Value}
+use Rattle.c_runs.specs.TruthStates.{Value}
 use Rattle.qed_terms.specs.Meaning as sense
 use Rattle.qed_terms.specs.Tree.{Tree}
 use Rattle.qed_terms.specs.Meaning.{truth}
@@ -15,7 +15,7 @@ use Rattle.c_runs.specs.Claims.{Stop, at_entry, required, is_required, unless_tr
 use Rattle.c_runs.specs.Claims as broken
 use Rattle.c_runs.specs.Calls.{stops}
 use Rattle.c_runs.specs.Entry.{Enters}
-use Rattle.core_checks.specs.Tree.{Steps}
+use Rattle.c_runs.specs.Tree.{Steps}
 use Rattle.goal_segments.specs.Segments.{FunctionSeg}
 use Rattle.plain_states.specs.Slots.{State, at, double, value_slot, local_value, temp_slot}
 use Rattle.plain_states.specs.Scopes.{is_integer, kind_of, zeros, first_slots, argument_slots}

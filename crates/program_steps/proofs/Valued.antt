@@ -10,15 +10,15 @@ use Rattle.c_kinds.specs.Models.{holds}
 use Rattle.typed_prog.specs.Tree as t
 use Rattle.qed_terms.specs.Meaning as sense
 use Rattle.qed_terms.specs.Meaning.{Values, truth}
-use Rattle.acsl_truth.specs.States.{Value, number, pointer}
+use Rattle.c_runs.specs.TruthStates.{Value, number, pointer}
 use Rattle.c_runs.specs.Program.{Variable, Facts}
 use Rattle.c_runs.specs.States.{is_nonzero}
 use Rattle.c_runs.specs.Operators.{truth_number}
 use Rattle.c_runs.specs.Scopes.{is_content}
-use Rattle.core_runs.specs.Run.{CoreWorld}
-use Rattle.rte_checks.specs.Checks.{Check, checks_of}
-use Rattle.rte_checks.specs.Tests.{total, is_met}
-use Rattle.segments.specs.Segments.{Asks}
+use Rattle.c_runs.specs.CoreRun.{CoreWorld}
+use Rattle.c_runs.specs.Checks.{Check, checks_of}
+use Rattle.c_runs.specs.Tests.{total, is_met}
+use Rattle.goal_segments.specs.RunSegments.{Asks}
 use Rattle.plain_states.specs.Slots.{State}
 use Rattle.goal_segments.specs.Told.{Shape}
 use Rattle.value_terms.specs.Readings.{Term, as_number, as_test, as_pointer, number_term, condition}

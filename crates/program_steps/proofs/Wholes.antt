@@ -6,8 +6,8 @@ use Rattle.wp_base.specs.declared.kinds.CellKind.TheVariants as cell
 use Rattle.wp_base.specs.declared.kinds.Kind.{Kind}
 use Rattle.wp_base.specs.Blocks.{Table, count}
 use Rattle.typed_prog.specs.declared.operators.Variable.TheVariants as variables
-use Rattle.acsl_truth.specs.States as labelled
-use Rattle.acsl_truth.specs.States.{Value, number}
+use Rattle.c_runs.specs.TruthStates as labelled
+use Rattle.c_runs.specs.TruthStates.{Value, number}
 use Rattle.qed_terms.specs.Meaning as sense
 use Rattle.qed_terms.specs.Tree.{false_tree}
 use Rattle.c_runs.specs.Program.{Variable, Contract, Function, Facts, Program}
@@ -16,11 +16,11 @@ use Rattle.c_runs.specs.Operators.{noreturn}
 use Rattle.c_runs.specs.Claims.{Stop, undefined, in_order, at_entry, at_return, entered_well, ensured, here_in, granted_in, parts_of, lets_cell, lets_local, may_change_local}
 use Rattle.c_runs.specs.Scopes.{arrived}
 use Rattle.c_runs.specs.Calls.{Eval, gives, stops, nought}
-use Rattle.core_runs.specs.Run as run
-use Rattle.core_runs.specs.Run.{CoreWorld, Ending, begun}
-use Rattle.core_checks.specs.Tree.{Steps}
-use Rattle.segments.specs.Segments as segment
-use Rattle.segments.specs.Segments.{BodyEnds, behind_call}
+use Rattle.c_runs.specs.CoreRun as run
+use Rattle.c_runs.specs.CoreRun.{CoreWorld, Ending, begun}
+use Rattle.c_runs.specs.Tree.{Steps}
+use Rattle.goal_segments.specs.RunSegments as segment
+use Rattle.goal_segments.specs.RunSegments.{BodyEnds, behind_call}
 use Rattle.goal_segments.specs.Segments.{AllSeg, FunctionSeg, not_entered, goes_wrong, breaks_promise, returns_well}
 use Rattle.plain_states.specs.Slots.{State, at, value_slot, result_slot}
 use Rattle.plain_states.proofs.Calling.{some_same}

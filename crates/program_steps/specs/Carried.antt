@@ -1,7 +1,7 @@
 -- What a run carries along, as words know it: which function runs, its measure, and the set in force.
 use Rattle.std.specs.Prelude.{◌≡◌, ℕ, ℤ, negsuc, List, [], ◌∷◌, Some, slice_get}
 use Rattle.typed_prog.specs.declared.operators.Variable.TheVariants as variables
-use Rattle.acsl_truth.specs.Allowed.{is_named}
+use Rattle.c_runs.specs.TruthAllowed.{is_named}
 use Rattle.c_runs.specs.Program.{Variable, Contract, Facts}
 use Rattle.c_runs.specs.States.{Here, Granted}
 use Rattle.c_runs.specs.Claims.{in_state, measure_of, granted_in, parts_of}

@@ -9,8 +9,8 @@ use Rattle.typed_prog.specs.declared.operators.Variable.TheVariants as variables
 use Rattle.acsl_trees.specs.Tree as acsl
 use Rattle.acsl_trees.specs.declared.heads.Content.TheVariants as content
 use Rattle.acsl_trees.specs.declared.heads.Head.TheVariants as head
-use Rattle.acsl_truth.specs.States as labelled
-use Rattle.acsl_truth.specs.States.{Value, number}
+use Rattle.c_runs.specs.TruthStates as labelled
+use Rattle.c_runs.specs.TruthStates.{Value, number}
 use Rattle.acsl_encode.specs.Readings as annotation
 use Rattle.acsl_encode.specs.Encode as encode
 use Rattle.acsl_encode.specs.Encode.{all_of}
@@ -25,8 +25,8 @@ use Rattle.c_runs.specs.Claims.{Broken, holds, struct_cells, in_order}
 use Rattle.c_runs.specs.States.{World, seen_by_contract}
 use Rattle.c_runs.specs.Scopes.{arrived}
 use Rattle.c_runs.specs.Calls.{Eval, gives, stops}
-use Rattle.core_runs.specs.Run.{begun}
-use Rattle.core_checks.specs.Tree.{Steps}
+use Rattle.c_runs.specs.CoreRun.{begun}
+use Rattle.c_runs.specs.Tree.{Steps}
 use Rattle.plain_states.specs.Slots.{State, at, result_slot}
 use Rattle.goal_segments.specs.Told.{Shape, sizes, is_param, IsResult}
 use Rattle.walk_steps.specs.State.{at_or}

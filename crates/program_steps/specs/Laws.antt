@@ -6,15 +6,15 @@ use Rattle.typed_prog.specs.Tree as t
 use Rattle.qed_terms.specs.Meaning as sense
 use Rattle.qed_terms.specs.Tree.{Tree}
 use Rattle.wp_base.specs.declared.kinds.Kind.{Kind}
-use Rattle.acsl_truth.specs.States.{Value}
+use Rattle.c_runs.specs.TruthStates.{Value}
 use Rattle.c_runs.specs.Program.{Contract, Function, Loop, Facts, Program}
 use Rattle.c_runs.specs.States.{World, Here}
 use Rattle.c_runs.specs.Claims.{Stop}
 use Rattle.c_runs.specs.Calls.{stops}
 use Rattle.c_runs.specs.Entry.{Enters, are_arguments}
-use Rattle.core_runs.specs.Run.{CoreWorld}
-use Rattle.rte_checks.specs.Checks.{Check}
-use Rattle.core_checks.specs.Tree.{Goal, Steps}
+use Rattle.c_runs.specs.CoreRun.{CoreWorld}
+use Rattle.c_runs.specs.Checks.{Check}
+use Rattle.c_runs.specs.Tree.{Goal, Steps}
 use Rattle.goal_segments.specs.Segments.{AllSeg, FunctionSeg}
 use Rattle.plain_states.specs.Slots.{State}
 use Rattle.plain_states.specs.Scopes.{is_integer}

@@ -9,7 +9,7 @@ use Rattle.qed_terms.specs.Tree.{Tree}
 use Rattle.c_runs.specs.Program.{Variable, Contract, Facts}
 use Rattle.c_runs.specs.States.{Here}
 use Rattle.c_runs.specs.Claims.{may_change_local}
-use Rattle.core_runs.specs.Run.{Ending}
+use Rattle.c_runs.specs.CoreRun.{Ending}
 use Rattle.plain_states.specs.Slots.{State}
 use Rattle.plain_states.specs.Scopes.{is_integer}
 use Rattle.goal_segments.specs.Told.{Shape, may_change_global}

@@ -5,13 +5,13 @@ use Rattle.wp_base.specs.Blocks.{Table}
 use Rattle.c_kinds.specs.Models.{holds}
 use Rattle.typed_prog.specs.declared.operators.Variable.TheVariants as variables
 use Rattle.qed_terms.specs.Operators.{is_equal}
-use Rattle.acsl_truth.specs.States.{Value, number}
-use Rattle.acsl_truth.specs.States as labelled
+use Rattle.c_runs.specs.TruthStates.{Value, number}
+use Rattle.c_runs.specs.TruthStates as labelled
 use Rattle.c_runs.specs.Program.{Variable, Facts}
 use Rattle.c_runs.specs.States.{Local, plain, hidden}
 use Rattle.c_runs.specs.Claims.{Stop, struct_cells}
-use Rattle.core_runs.specs.Run as run
-use Rattle.core_runs.specs.Run.{CoreWorld, Ending}
+use Rattle.c_runs.specs.CoreRun as run
+use Rattle.c_runs.specs.CoreRun.{CoreWorld, Ending}
 use Rattle.plain_states.specs.Slots.{State, at, value_slot, local_value, local_flag, result_slot, temp_slot}
 use Rattle.plain_states.specs.Scopes.{kind_of}
 use Rattle.goal_segments.specs.Told.{IsGood, IsFlag, Shape, sizes, IsResult}

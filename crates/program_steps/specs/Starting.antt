@@ -6,7 +6,7 @@ use Rattle.c_kinds.specs.Models.{low, high}
 use Rattle.qed_terms.specs.Meaning as sense
 use Rattle.qed_terms.specs.Tree.{Tree, num, at_most}
 use Rattle.c_runs.specs.Program.{Variable, Claim, Behavior, Contract, Function, Facts}
-use Rattle.core_checks.specs.Tree.{Steps}
+use Rattle.c_runs.specs.Tree.{Steps}
 use Rattle.plain_states.specs.Slots.{value_slot, local_value}
 use Rattle.plain_states.specs.Scopes.{kind_of}
 use Rattle.goal_segments.specs.Told.{Shape, sizes}

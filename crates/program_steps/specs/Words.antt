@@ -16,10 +16,10 @@ use Rattle.c_runs.specs.Program as program
 use Rattle.c_runs.specs.Program.{Claim, Behavior, Contract, Loop, Facts}
 use Rattle.c_runs.specs.Claims as broken
 use Rattle.c_runs.specs.Claims.{Broken}
-use Rattle.rte_checks.specs.Checks as rte
-use Rattle.rte_checks.specs.Checks.{constant_of}
-use Rattle.core_checks.specs.Tree as core
-use Rattle.core_checks.specs.Tree.{Goal}
+use Rattle.c_runs.specs.Checks as rte
+use Rattle.c_runs.specs.Checks.{constant_of}
+use Rattle.c_runs.specs.Tree as core
+use Rattle.c_runs.specs.Tree.{Goal}
 use Rattle.plain_states.specs.Slots.{Sizes, value_slot, flag_slot, result_slot, temp_slot}
 use Rattle.goal_segments.specs.Told.{Shape, sizes, temps}
 use Rattle.value_terms.specs.Readings.{Term, number_term, condition, term_at}

@@ -8,7 +8,7 @@ use Rattle.typed_prog.specs.declared.tree.Value.{Value}
 use Rattle.typed_prog.specs.Tree as t
 use Rattle.typed_prog.specs.View.{view_value}
 use Rattle.c_runs.specs.Program as p
-use Rattle.core_runs.specs.Core as c
+use Rattle.c_runs.specs.Core as c
 use Rattle.core_trees.specs.View.{view_claim, view_measure, view_loop, view_variables, view_cores}
 use Rattle.program_trees.specs.declared.contracts.Behavior.{Behavior}
 use Rattle.program_trees.specs.declared.contracts.Together.{Together}

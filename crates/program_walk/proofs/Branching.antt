@@ -6,8 +6,8 @@ use Rattle.qed_terms.specs.Tree.{Tree, not_of}
 use Rattle.c_runs.specs.Program.{Function}
 use Rattle.plain_runs.specs.Fitting.{sizes}
 use Rattle.typed_prog.specs.Tree as t
-use Rattle.core_checks.specs.Tree as core
-use Rattle.rte_checks.specs.Checks.{Check}
+use Rattle.c_runs.specs.Tree as core
+use Rattle.c_runs.specs.Checks.{Check}
 use Rattle.value_terms.specs.Readings.{Term, condition}
 use Rattle.plain_states.specs.Slots.{sizes_of}
 use Rattle.value_words.specs.Laws.{IsClosed}

@@ -8,8 +8,8 @@ use Rattle.typed_prog.specs.declared.operators.Root.{Root}
 use Rattle.typed_prog.specs.declared.operators.Root.TheVariants as root
 use Rattle.typed_prog.specs.declared.types.CoreType.{CoreType}
 use Rattle.qed_terms.specs.Tree.{Tree}
-use Rattle.core_checks.specs.Tree as core
-use Rattle.rte_checks.specs.Checks.{Check}
+use Rattle.c_runs.specs.Tree as core
+use Rattle.c_runs.specs.Checks.{Check}
 use Rattle.value_terms.specs.Readings.{Term, number_term, term_at}
 use Rattle.value_terms.specs.Terms.{terms_of}
 use Rattle.walk_steps.specs.Forms.{Slots}

@@ -3,7 +3,7 @@ use Rattle.std.specs.Prelude.{ℕ, Option}
 use Rattle.wp_base.specs.declared.kinds.Kind.{Kind}
 use Rattle.qed_terms.specs.Meaning as sense
 use Rattle.c_runs.specs.Program.{Function}
-use Rattle.core_checks.specs.Tree as core
+use Rattle.c_runs.specs.Tree as core
 use Rattle.program_trees.specs.View.{view_contract}
 use Rattle.plain_states.specs.Slots.{sizes_of}
 use Rattle.walk_steps.specs.Step.{Step, seq}

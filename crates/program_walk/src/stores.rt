@@ -1,10 +1,10 @@
 // Writes to objects: what the set in force asks of them (ACSL 2.3.2, 2.4.2).
 ghost use Rattle.std.specs.Prelude.{◌≡◌, ℕ, List, Option, IfOk};
 ghost use Rattle.c_runs.specs.Program.{Function};
-ghost use Rattle.core_checks.specs.Tree as core;
+ghost use Rattle.c_runs.specs.Tree as core;
 ghost use Rattle.program_steps.specs.Temporaries.{Temporaries};
 ghost use Rattle.program_walk.specs.View.{Over, step_word};
-ghost use Rattle.rte_checks.specs.Checks.{Check};
+ghost use Rattle.c_runs.specs.Checks.{Check};
 ghost use Rattle.step_walks.specs.View.{view_state};
 ghost use Rattle.step_walks.specs.Walks.{Walks};
 ghost use Rattle.typed_prog.specs.Tree.{values_of};

@@ -2,7 +2,7 @@
 // files.
 ghost use Rattle.std.specs.Prelude.{◌≡◌, ◌∷◌, [], ℕ, List, IfOk};
 ghost use Rattle.checked_trees.specs.View.{view_step, view_steps};
-ghost use Rattle.core_checks.specs.Tree as core;
+ghost use Rattle.c_runs.specs.Tree as core;
 ghost use Rattle.core_trees.specs.View.{view_loop};
 ghost use Rattle.program_steps.specs.Temporaries.{Temporaries};
 ghost use Rattle.program_steps.specs.Words as words;

@@ -10,7 +10,7 @@ use Rattle.wp_base.specs.declared.kinds.CellKind.TheVariants as cell
 use Rattle.wp_base.specs.declared.kinds.Layout.{Layout}
 use Rattle.wp_base.specs.Blocks.{Table, count, len, block_at, block_cells, block_of, has_cell, has_layout, is_block, is_cell, cells_of}
 use Rattle.c_kinds.specs.Models.{high, difference_kind}
-use Rattle.acsl_truth.specs.States.{Value, number, pointer, addresses, region, nothing_of}
+use Rattle.c_runs.specs.TruthStates.{Value, number, pointer, addresses, region, nothing_of}
 use Rattle.c_runs.specs.Program.{Variable, Facts}
 use Rattle.c_runs.specs.States.{Memory, World, plain, with_local, home_from, global_home}
 use Rattle.c_runs.specs.Scopes.{scalar_of, is_content, next_content, others, plain_made, block_made, variable_made, ended_since}
@@ -23,11 +23,11 @@ use Rattle.typed_memories.proofs.CellKinds.{cell_of_kind, no_cell_of}
 use Rattle.typed_memories.proofs.Decoding.{no_hidden_cell}
 use Rattle.typed_memories.proofs.Listing.{states_have_memories}
 use Rattle.typed_memories.proofs.Stated.{formed_is_of_contents, well_formed_states_are_formed}
-use Rattle.memory_changes.specs.Changes.{StillThere}
-use Rattle.memory_changes.proofs.Tables.{below_more, cell_below, no_block, not_count, new_block, other_block, grown_block}
-use Rattle.memory_changes.proofs.Making.{hidden_before}
-use Rattle.memory_changes.proofs.Filling.{made_blocks_hold_contents}
-use Rattle.memory_changes.proofs.Ending.{standing_blocks_stay}
+use Rattle.typed_memories.specs.Changes.{StillThere}
+use Rattle.typed_memories.proofs.Tables.{below_more, cell_below, no_block, not_count, new_block, other_block, grown_block}
+use Rattle.typed_memories.proofs.Making.{hidden_before}
+use Rattle.typed_memories.proofs.Filling.{made_blocks_hold_contents}
+use Rattle.typed_memories.proofs.Ending.{standing_blocks_stay}
 use Rattle.run_blocks.specs.Ends.{is_short}
 use Rattle.run_blocks.specs.Laws.{OpeningsAreGood, EndsAreGood}
 use Rattle.run_blocks.proofs.Standing.{still, block_still, grown_still}

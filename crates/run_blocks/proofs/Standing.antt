@@ -7,7 +7,7 @@ use Rattle.typed_prog.specs.declared.types.CoreType.{CoreType}
 use Rattle.typed_prog.specs.declared.operators.Path.{Path}
 use Rattle.typed_prog.specs.Tree as t
 use Rattle.c_kinds.proofs.Converting.{test_le, le_test}
-use Rattle.acsl_truth.specs.States.{Value, block_of, offset_of, nothing_of}
+use Rattle.c_runs.specs.TruthStates.{Value, block_of, offset_of, nothing_of}
 use Rattle.c_runs.specs.Program.{Variable, Facts, Program}
 use Rattle.c_runs.specs.States.{Local, plain, home, World, Memory, Here, with_local, with_memory, stored_in}
 use Rattle.c_runs.specs.Objects.{plain_root, cell_of, address}
@@ -15,20 +15,20 @@ use Rattle.c_runs.specs.Claims as broken
 use Rattle.c_runs.specs.Claims.{unless_true, holds, in_body, may_change, may_change_local}
 use Rattle.c_runs.specs.Scopes.{scalar_of, next_content, others, block_made, plain_made, variable_made}
 use Rattle.c_runs.specs.Effects.{granted, kind_there, wrote_act, initial_in, initial_by, initial_act}
-use Rattle.core_runs.specs.Run.{CoreWorld, Ending, goes_on, exits, returns, stopped, with_eval, in_world, with_temp, scope_end, unless}
-use Rattle.rte_checks.specs.Checks.{Check}
-use Rattle.rte_checks.specs.Laws.{settle}
-use Rattle.rte_checks.specs.Tests.{is_met}
-use Rattle.core_checks.specs.Tree.{Goal, nowhere, temporary, place, variable, Step, set, store, start, call, branch, repeat, around, exit, give, claim, scope, Steps}
-use Rattle.core_checks.specs.Run as run
-use Rattle.core_checks.specs.Run.{goes_wrong, stored_value, way_values}
-use Rattle.segments.specs.Segments.{BlockEnds, at_end, left_here, left_further, returned, stopped_in}
+use Rattle.c_runs.specs.CoreRun.{CoreWorld, Ending, goes_on, exits, returns, stopped, with_eval, in_world, with_temp, scope_end, unless}
+use Rattle.c_runs.specs.Checks.{Check}
+use Rattle.c_runs.specs.CheckLaws.{settle}
+use Rattle.c_runs.specs.Tests.{is_met}
+use Rattle.c_runs.specs.Tree.{Goal, nowhere, temporary, place, variable, Step, set, store, start, call, branch, repeat, around, exit, give, claim, scope, Steps}
+use Rattle.c_runs.specs.CheckedRun as run
+use Rattle.c_runs.specs.CheckedRun.{goes_wrong, stored_value, way_values}
+use Rattle.goal_segments.specs.RunSegments.{BlockEnds, at_end, left_here, left_further, returned, stopped_in}
 use Rattle.goal_segments.specs.Sets.{own_loop}
 use Rattle.goal_segments.specs.Segments as segs
 use Rattle.goal_segments.specs.Segments.{SameBlocks, Opened, all_opened, unknown, with_value, not_set, with_cells, is_single, no_deeper, Seg, AllSeg}
-use Rattle.memory_changes.specs.Changes.{StillThere}
-use Rattle.memory_changes.proofs.Tables.{below_more, grown_same, stay_changed, stay_made}
-use Rattle.memory_changes.proofs.Filling.{made_blocks_hold_contents}
+use Rattle.typed_memories.specs.Changes.{StillThere}
+use Rattle.typed_memories.proofs.Tables.{below_more, grown_same, stay_changed, stay_made}
+use Rattle.typed_memories.proofs.Filling.{made_blocks_hold_contents}
 use Rattle.run_blocks.specs.Ends.{StillAt}
 use Rattle.run_blocks.specs.Laws.{StandingBlocks}
 

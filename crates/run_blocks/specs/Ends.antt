@@ -3,8 +3,8 @@ use Rattle.std.specs.Prelude.{Bool, ◌||◌, pos, int_le, length}
 use Rattle.wp_base.specs.Blocks.{Table, cells_of}
 use Rattle.c_kinds.specs.Models.{high, difference_kind}
 use Rattle.c_runs.specs.Program.{Variable, Facts}
-use Rattle.core_runs.specs.Run.{Ending, goes_on, exits, returns, stopped}
-use Rattle.memory_changes.specs.Changes.{StillThere}
+use Rattle.c_runs.specs.CoreRun.{Ending, goes_on, exits, returns, stopped}
+use Rattle.typed_memories.specs.Changes.{StillThere}
 
 -- Blocks of the first table are as they were, however a statement ends. What stops has no world behind it.
 abbrev pub StillAt : Table → Ending → Type 0

@@ -4,10 +4,10 @@ use Rattle.std.specs.List.{list_all}
 use Rattle.c_runs.specs.Program.{Variable, Facts, Program}
 use Rattle.c_runs.specs.States.{Memory, World, Here}
 use Rattle.c_runs.specs.Scopes.{left}
-use Rattle.core_runs.specs.Run.{CoreWorld, Ending}
-use Rattle.core_checks.specs.Tree.{Step, Steps}
+use Rattle.c_runs.specs.CoreRun.{CoreWorld, Ending}
+use Rattle.c_runs.specs.Tree.{Step, Steps}
 use Rattle.goal_segments.specs.Segments.{Opened, Seg, AllSeg}
-use Rattle.memory_changes.specs.Changes.{StillThere}
+use Rattle.typed_memories.specs.Changes.{StillThere}
 use Rattle.plain_runs.specs.Fitting.{IsGood}
 use Rattle.run_blocks.specs.Ends.{StillAt, is_short}
 

@@ -2,7 +2,7 @@
 use Rattle.std.proofs.Common.{ℕ, zero, suc, ℤ, Bool, true, false, if◌then◌else◌, List, [], ◌∷◌, Option, Some, None}
 use Rattle.std.specs.Prelude.{int_le, int_lt, pos}
 use Rattle.std.specs.List.{list_all, list_any}
-use Rattle.acsl_truth.specs.States.{Value, World as Meant}
+use Rattle.c_runs.specs.TruthStates.{Value, World as Meant}
 use Rattle.c_runs.specs.Program.{Claim, Measure, Behavior, Together, Contract, Loop, Function, Facts}
 use Rattle.c_runs.specs.States.{World, Memory, Here}
 use Rattle.c_runs.specs.Claims.{Broken, requires, complete, disjoint, ensures, invariant, decreases, variant_positive, variant_less, Stop, or_stop, unless_true, holds, is_assumed, claimed, parts_of, is_required, required, in_state, at_return, ensured_by, ensured, is_so, assumed_of, one_at_most, together_holds, all_together, in_order, entered_well, measure_of, number_at, is_less, goes_down, decreased, variant_holds, at_head, at_entry, here_in}

@@ -4,7 +4,7 @@ use Rattle.wp_base.specs.declared.kinds.CellKind.{CellKind}
 use Rattle.typed_prog.specs.declared.types.CoreType.{CoreType}
 use Rattle.typed_prog.specs.declared.operators.Path.{Path}
 use Rattle.typed_prog.specs.Tree as tree
-use Rattle.acsl_truth.specs.States.{Value}
+use Rattle.c_runs.specs.TruthStates.{Value}
 use Rattle.c_runs.specs.Program.{Loop, Variable, Function, Program}
 use Rattle.c_runs.specs.States.{World, Memory, Here, is_nonzero}
 use Rattle.c_runs.specs.Operators.{Val, is, wrong}
@@ -15,8 +15,8 @@ use Rattle.c_runs.specs.Scopes.{entered}
 use Rattle.c_runs.specs.Calls.{Eval, gives, stops}
 use Rattle.c_runs.specs.Effects.{write, wrote_act, assign_act, initial_act}
 use Rattle.c_runs.specs.Run as spelled
-use Rattle.core_runs.specs.Core.{Target, nowhere, temporary, place, variable, Core, set, store, start, call, branch, repeat, around, exit, give, claim, scope, Cores, end, then_}
-use Rattle.core_runs.specs.Run.{CoreWorld, Ending, goes_on, exits, returns, stopped, then_do, with_val, with_eval, in_world, with_temp, block_end, scope_end, unless, one_turn, Task, body, again, Deeper, returned, begun, calls, eval, evals, to_place, result_to, pass, gives_back, exec, exec_all, task_by, levels}
+use Rattle.c_runs.specs.Core.{Target, nowhere, temporary, place, variable, Core, set, store, start, call, branch, repeat, around, exit, give, claim, scope, Cores, end, then_}
+use Rattle.c_runs.specs.CoreRun.{CoreWorld, Ending, goes_on, exits, returns, stopped, then_do, with_val, with_eval, in_world, with_temp, block_end, scope_end, unless, one_turn, Task, body, again, Deeper, returned, begun, calls, eval, evals, to_place, result_to, pass, gives_back, exec, exec_all, task_by, levels}
 use Rattle.run_changes.proofs.Memories.{Kept}
 use Rattle.run_changes.proofs.Worlds.{KeptWorld, KeptStop, KeptEval, IsBounded, bounded_loop, kept_entered, kept_left, kept_initial, kept_stores, kept_assign}
 use Rattle.run_changes.proofs.Calls.{KeptOption, told_true, told_head, KeptAct, kept_found}

@@ -9,7 +9,7 @@ use Rattle.typed_prog.specs.declared.operators.UpdateForm.TheVariants as form
 use Rattle.typed_prog.specs.declared.operators.Effect.{Effect}
 use Rattle.typed_prog.specs.declared.operators.Effect.TheVariants as effect
 use Rattle.typed_prog.specs.Tree as tree
-use Rattle.acsl_truth.specs.States.{Value}
+use Rattle.c_runs.specs.TruthStates.{Value}
 use Rattle.c_runs.specs.Program.{Variable, Facts}
 use Rattle.c_runs.specs.States.{World, Memory, Here, is_nonzero}
 use Rattle.c_runs.specs.Operators.{Val, is, wrong, truth_number}

@@ -7,8 +7,8 @@ use Rattle.std.proofs.lemmas.Int.{ints}
 use Rattle.wp_base.specs.declared.kinds.CellKind.{CellKind}
 use Rattle.wp_base.specs.Blocks.{Table, block_of, count, block_at, block_cells, has_cell, is_cell, endeds, to_nat}
 use Rattle.c_kinds.proofs.Converting.{test_le}
-use Rattle.acsl_truth.specs.States.{Value, number, nothing_of, is_negative}
-use Rattle.acsl_truth.specs.Allowed.{lies_in, is_named, Allows}
+use Rattle.c_runs.specs.TruthStates.{Value, number, nothing_of, is_negative}
+use Rattle.c_runs.specs.TruthAllowed.{lies_in, is_named, Allows}
 use Rattle.c_runs.specs.Program.{Facts, Variable}
 use Rattle.c_runs.specs.States.{Local, Memory, Granted, stored_in, plain_globals, cell_by, params_from, seen_by_contract, held_by, global_home}
 use Rattle.c_runs.specs.Claims.{lets_cell}

@@ -1,14 +1,14 @@
 -- Where a run returns, what its function promises was tested.
 use Rattle.std.proofs.Common.{◌≡◌, ℕ, zero, suc, List, [], Option, Some, None, refl, sym, subst}
-use Rattle.acsl_truth.specs.States.{Value}
+use Rattle.c_runs.specs.TruthStates.{Value}
 use Rattle.c_runs.specs.Program.{Contract, Stmts, Function, Facts}
 use Rattle.c_runs.specs.States.{World, Memory, Here}
 use Rattle.c_runs.specs.Claims.{Stop, ensured, at_entry, required, entered_well, measure_of, decreased, here_in}
 use Rattle.c_runs.specs.Scopes.{arrived}
 use Rattle.c_runs.specs.Calls.{Eval, gives, stops, Act, unless, turn_by, turn, back_in, keeps_promises, Runner, entered_by, called_by, found}
 use Rattle.c_runs.specs.Run as spelled
-use Rattle.core_runs.specs.Core.{Cores}
-use Rattle.core_runs.specs.Run as core
+use Rattle.c_runs.specs.Core.{Cores}
+use Rattle.c_runs.specs.CoreRun as core
 use Rattle.run_changes.specs.Laws.{Promised, RunsKeepPromises, CoreRunsKeepPromises}
 
 module _ (p : Facts) (n : ℕ) (c : Contract) (vs : List Value) (m : Memory) where

@@ -4,15 +4,15 @@ use Rattle.std.proofs.lemmas.Bool.{and_parts}
 use Rattle.wp_base.specs.declared.kinds.CellKind.{CellKind}
 use Rattle.wp_base.specs.Blocks.{count}
 use Rattle.acsl_trees.specs.Tree.{Tree}
-use Rattle.acsl_truth.specs.States.{Value, World as Meant}
+use Rattle.c_runs.specs.TruthStates.{Value, World as Meant}
 use Rattle.c_runs.specs.Program.{Behavior, Contract, Stmts, Function, Facts}
 use Rattle.c_runs.specs.States.{World, Memory, Here, Granted, no_locals, seen_by_contract}
 use Rattle.c_runs.specs.Claims.{spent, undefined, failed, lets_cell, may_change, is_assumed, parts_of, regions_of, granted_by, granted_in, at_entry, here_in}
 use Rattle.c_runs.specs.Calls.{Eval, gives, stops, Runner, called_by, found}
 use Rattle.c_runs.specs.Allowed.{SetAllows, PartAllows, AllAllow, MayChange}
 use Rattle.c_runs.specs.Run as spelled
-use Rattle.core_runs.specs.Core.{Cores}
-use Rattle.core_runs.specs.Run as core
+use Rattle.c_runs.specs.Core.{Cores}
+use Rattle.c_runs.specs.CoreRun as core
 use Rattle.run_changes.specs.Laws.{Behind, RunsChangeWhatTheyMay, CoreRunsChangeWhatTheyMay}
 use Rattle.run_changes.proofs.Tables.{all_first, all_second}
 use Rattle.run_changes.proofs.Memories.{Kept, kept_none, allows}

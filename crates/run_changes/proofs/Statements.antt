@@ -2,7 +2,7 @@
 use Rattle.std.proofs.Common.{ℕ, zero, suc, ℤ, Bool, true, false, if◌then◌else◌, List, Option, Some, None}
 use Rattle.wp_base.specs.declared.kinds.CellKind.{CellKind}
 use Rattle.typed_prog.specs.Tree as tree
-use Rattle.acsl_truth.specs.States.{Value, number_of}
+use Rattle.c_runs.specs.TruthStates.{Value, number_of}
 use Rattle.c_runs.specs.Program.{Loop, Stmt, evaluate, block, initial, choose, loop, switch, case_of, default, break, continue, return_of, assert, Stmts, stop, more, Variable, Function, Program}
 use Rattle.c_runs.specs.States.{World, Memory, Here, is_nonzero}
 use Rattle.c_runs.specs.Values.{Vals, are, wrongs}

@@ -10,8 +10,8 @@ use Rattle.wp_base.specs.declared.kinds.CellKind.{CellKind}
 use Rattle.wp_base.specs.Kinds.{cell_place}
 use Rattle.wp_base.specs.Blocks.{Table, count, or_ended, block_at, block_cells, same_cell, is_some_cell, has_cell, is_cell}
 use Rattle.qed_terms.specs.Operators.{is_zero, is_equal}
-use Rattle.acsl_truth.specs.States.{Value, cells_of, covers}
-use Rattle.acsl_truth.specs.Allowed.{has_kind, lies_in}
+use Rattle.c_runs.specs.TruthStates.{Value, cells_of, covers}
+use Rattle.c_runs.specs.TruthAllowed.{has_kind, lies_in}
 use Rattle.c_runs.specs.States.{at, with_cell}
 use Rattle.c_runs.specs.Effects.{cell_in}
 

@@ -4,7 +4,7 @@ use Rattle.wp_base.specs.declared.kinds.CellKind.{CellKind}
 use Rattle.wp_base.specs.Blocks.{count, cells_of}
 use Rattle.typed_prog.specs.declared.types.CoreType.{CoreType}
 use Rattle.typed_prog.specs.declared.operators.Path.{Path}
-use Rattle.acsl_truth.specs.States.{Value, nothing_of, block_of, offset_of}
+use Rattle.c_runs.specs.TruthStates.{Value, nothing_of, block_of, offset_of}
 use Rattle.c_runs.specs.Program.{Facts, Variable, Contract, Loop}
 use Rattle.c_runs.specs.States.{Local, plain, home, World, Memory, Here, Granted, with_local, with_memory, unset, no_locals, stored_in, seen}
 use Rattle.c_runs.specs.Operators.{Val, is, wrong}

@@ -1,14 +1,14 @@
 -- What a whole run changes, and what it promises (ACSL 2.3.1, 2.3.2).
 use Rattle.std.specs.Prelude.{◌≡◌, ℕ, List, [], Some, None}
-use Rattle.acsl_truth.specs.States.{Value}
+use Rattle.c_runs.specs.TruthStates.{Value}
 use Rattle.c_runs.specs.Program.{Contract, Stmts, Function, Facts, Program}
 use Rattle.c_runs.specs.States.{Memory}
 use Rattle.c_runs.specs.Claims.{Stop, spent, undefined, failed, ensured, here_in}
 use Rattle.c_runs.specs.Calls.{Eval, gives, stops}
 use Rattle.c_runs.specs.Run as spelled
 use Rattle.c_runs.specs.Allowed.{MayChange}
-use Rattle.core_runs.specs.Core.{Cores}
-use Rattle.core_runs.specs.Run as core
+use Rattle.c_runs.specs.Core.{Cores}
+use Rattle.c_runs.specs.CoreRun as core
 
 abbrev pub WhereSpent : (Memory → Type 0) → Stop → Type 0
 WhereSpent q (spent w) = q w.memory

@@ -3,7 +3,7 @@ use Rattle.std.proofs.Common.{◌≡◌, ℕ, List, [], ◌∷◌, map, Option, 
 use Rattle.wp_base.specs.declared.kinds.Kind.{Kind}
 use Rattle.typed_unit.specs.Unit as u
 use Rattle.c_runs.specs.Program.{Function}
-use Rattle.core_checks.specs.Tree.{Steps}
+use Rattle.c_runs.specs.Tree.{Steps}
 use Rattle.plain_runs.specs.Fitting.{shape_of, is_param}
 use Rattle.plain_words.specs.Temporaries.{temporaries_in}
 use Rattle.program_steps.specs.Temporaries.{no_temporaries}

@@ -4,7 +4,7 @@ use Rattle.wp_base.specs.declared.kinds.Kind.{Kind}
 use Rattle.typed_unit.specs.Unit as u
 use Rattle.qed_terms.specs.Setting.{Setting}
 use Rattle.c_runs.specs.Program.{Function, Program}
-use Rattle.core_checks.specs.Tree.{Steps}
+use Rattle.c_runs.specs.Tree.{Steps}
 use Rattle.plain_runs.specs.Fitting.{shape_of}
 use Rattle.plain_words.specs.Temporaries.{temporaries_in}
 use Rattle.walk_frames.specs.Words.{StepsClosed}

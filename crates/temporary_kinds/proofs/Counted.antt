@@ -4,7 +4,7 @@ use Rattle.std.proofs.lemmas.Bool.Decides.{nat_tests}
 use Rattle.wp_base.specs.declared.kinds.CellKind.{CellKind}
 use Rattle.typed_prog.specs.declared.types.CoreType.{CoreType}
 use Rattle.typed_prog.specs.Tree as t
-use Rattle.core_checks.specs.Tree.{Goal, nowhere, temporary, place, variable, Step, set, store, start, call, branch, repeat, around, exit, give, claim, scope, Steps, end, then_}
+use Rattle.c_runs.specs.Tree.{Goal, nowhere, temporary, place, variable, Step, set, store, start, call, branch, repeat, around, exit, give, claim, scope, Steps, end, then_}
 use Rattle.value_terms.specs.Typed.{kind_given}
 use Rattle.temporary_kinds.specs.Kinds.{or_else, only_if, node_kind, value_kind, values_kind, given_kind, goal_kind, step_kind, steps_kind, greater, node_count, value_count, values_count, given_count, goal_count, step_count, steps_count}
 use Rattle.temporary_kinds.specs.Laws.{MentionedAreCounted}

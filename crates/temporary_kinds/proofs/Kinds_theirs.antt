@@ -3,8 +3,8 @@ use Rattle.std.proofs.Common.{◌≡◌, ℕ, Bool, true, false, nat_lt, ◌&&�
 use Rattle.wp_base.specs.declared.kinds.CellKind.{CellKind}
 use Rattle.typed_prog.specs.Tree as t
 use Rattle.c_runs.specs.Program.{Function, Facts}
-use Rattle.core_runs.specs.Core.{Target, nowhere, temporary, place, variable, Core, set, store, start, call, branch, repeat, around, exit, give, claim, scope, Cores, end, then_}
-use Rattle.core_checks.specs.Adding.{goal_of, step_of, steps_of}
+use Rattle.c_runs.specs.Core.{Target, nowhere, temporary, place, variable, Core, set, store, start, call, branch, repeat, around, exit, give, claim, scope, Cores, end, then_}
+use Rattle.c_runs.specs.Adding.{goal_of, step_of, steps_of}
 use Rattle.value_terms.specs.Typed.{kind_given, IsTyped, AreTyped}
 use Rattle.goal_segments.specs.Told.{with_names}
 use Rattle.typed_runs.specs.Fitting.{Shape, InScope}

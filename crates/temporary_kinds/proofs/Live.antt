@@ -2,7 +2,7 @@
 use Rattle.std.proofs.Common.{◌≡◌, ℕ, zero, suc, ◌==◌, Bool, true, false, not, ◌&&◌, ◌||◌, if◌then◌else◌, List, [], ◌∷◌, Option, Some, None, refl, ap, ◌⊎◌, inl, inr}
 use Rattle.wp_base.specs.declared.kinds.CellKind.{CellKind}
 use Rattle.typed_prog.specs.Tree as t
-use Rattle.core_checks.specs.Tree.{Goal, nowhere, temporary, place, variable, Step, set, store, start, call, branch, repeat, around, exit, give, claim, scope, Steps, end, then_}
+use Rattle.c_runs.specs.Tree.{Goal, nowhere, temporary, place, variable, Step, set, store, start, call, branch, repeat, around, exit, give, claim, scope, Steps, end, then_}
 use Rattle.goal_segments.specs.Told.{goal_temp}
 use Rattle.value_terms.specs.Typed.{kind_given}
 use Rattle.program_steps.specs.Temporaries.{Temporaries, no_temporaries, uses, some_use, out_at, goal_uses, given_uses, live, all_live}

@@ -5,8 +5,8 @@ use Rattle.wp_base.specs.declared.kinds.CellKind.{CellKind}
 use Rattle.checked_trees.specs.declared.files.CheckedFunction.{CheckedFunction}
 use Rattle.checked_trees.specs.declared.steps.Step.{Step as Code}
 use Rattle.checked_trees.specs.View.{view_checked_function, view_step, view_steps}
-use Rattle.core_checks.specs.Tree as core
-use Rattle.rte_checks.specs.Checks.{Check}
+use Rattle.c_runs.specs.Tree as core
+use Rattle.c_runs.specs.Checks.{Check}
 use Rattle.typed_prog.specs.Tree as t
 use Rattle.temporary_kinds.specs.Kinds.{or_else, greater, result_of, value_kind, value_count, step_kind, step_count, steps_kind, steps_count}
 use Rattle.temporary_kinds.specs.View.{Tells, results_in}

@@ -6,7 +6,7 @@ use Rattle.wp_base.specs.declared.kinds.Kind.TheVariants as kind
 use Rattle.typed_prog.specs.declared.types.CoreType.{CoreType}
 use Rattle.typed_prog.specs.Tree as t
 use Rattle.c_runs.specs.Program.{Function, Program}
-use Rattle.core_checks.specs.Tree.{Goal, nowhere, temporary, place, variable, Step, set, store, start, call, branch, repeat, around, exit, give, claim, scope, Steps, end, then_}
+use Rattle.c_runs.specs.Tree.{Goal, nowhere, temporary, place, variable, Step, set, store, start, call, branch, repeat, around, exit, give, claim, scope, Steps, end, then_}
 use Rattle.value_terms.specs.Typed.{kind_given}
 
 -- the first of two, where it is there

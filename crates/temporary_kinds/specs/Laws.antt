@@ -2,12 +2,12 @@
 use Rattle.std.specs.Prelude.{◌≡◌, ◌<◌, ◌⊎◌, ℕ, true, List, [], ◌∷◌, Option, Some}
 use Rattle.wp_base.specs.declared.kinds.CellKind.{CellKind}
 use Rattle.c_runs.specs.Program.{Function, Facts}
-use Rattle.core_checks.specs.Tree.{Steps}
+use Rattle.c_runs.specs.Tree.{Steps}
 use Rattle.program_steps.specs.Temporaries.{Temporaries, all_live}
 use Rattle.typed_runs.specs.Fitting.{Shape, InScope}
 use Rattle.typed_normal.specs.Typed.{CoresAreTyped}
-use Rattle.core_runs.specs.Core.{Cores}
-use Rattle.core_checks.specs.Adding.{steps_of}
+use Rattle.c_runs.specs.Core.{Cores}
+use Rattle.c_runs.specs.Adding.{steps_of}
 use Rattle.temporary_kinds.specs.Kinds.{steps_kind, steps_count}
 
 -- what is put into a temporary, or it is used as, is of its kind

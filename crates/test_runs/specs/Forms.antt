@@ -17,7 +17,7 @@ use Rattle.typed_prog.specs.declared.operators.UpdateForm.{UpdateForm}
 use Rattle.typed_prog.specs.declared.operators.Variable.TheVariants as variable
 use Rattle.typed_prog.specs.Types.{of_kind, pointer_to}
 use Rattle.typed_prog.specs.Tree.{Value, typed, constant, apply, effect as effect_, stop, values_of}
-use Rattle.acsl_truth.specs.States.{Value as Held, number}
+use Rattle.c_runs.specs.TruthStates.{Value as Held, number}
 use Rattle.c_runs.specs.Program.{Contract, Behavior, Stmt, Stmts, stop as end, more as next, Variable, Function, Program}
 use Rattle.c_runs.specs.States.{Memory, World}
 use Rattle.c_runs.specs.Operators.{Undefined}

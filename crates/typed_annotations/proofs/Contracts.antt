@@ -14,7 +14,7 @@ use Rattle.c_runs.specs.Program as program
 use Rattle.c_runs.specs.Program.{Claim, Measure, Behavior, Contract, Loop, Function, Facts}
 use Rattle.c_runs.specs.Claims.{parts_of}
 use Rattle.c_runs.specs.Objects.{is_plain_in}
-use Rattle.core_checks.specs.Tree.{Steps}
+use Rattle.c_runs.specs.Tree.{Steps}
 use Rattle.acsl_well_typed.specs.WellTyped.{Known}
 use Rattle.acsl_well_typed.specs.Definitions.{known_with}
 use Rattle.annotations_encoded.specs.Sights.{has_block, unknown, Sights}

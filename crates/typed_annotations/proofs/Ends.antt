@@ -7,8 +7,8 @@ use Rattle.std.proofs.Math.IntN.{suc_ℤ-*ℤ, *ℤ_comm, suc_ℤ}
 use Rattle.wp_base.specs.declared.kinds.CellKind.{CellKind}
 use Rattle.acsl_trees.specs.declared.heads.Content.{Content}
 use Rattle.acsl_trees.specs.declared.heads.Content.TheVariants as content
-use Rattle.acsl_truth.specs.States as state
-use Rattle.acsl_truth.specs.States.{Value, Span, span_of, address_at}
+use Rattle.c_runs.specs.TruthStates as state
+use Rattle.c_runs.specs.TruthStates.{Value, Span, span_of, address_at}
 use Rattle.qed_terms.specs.Meaning.{Values, World as Logic}
 use Rattle.qed_terms.specs.Tree.{Tree as Term}
 use Rattle.acsl_encode.specs.Encode.{further, times, one_more, element_at, region_of, content_cells}

@@ -5,10 +5,10 @@ use Rattle.typed_prog.specs.Tree as t
 use Rattle.acsl_trees.specs.Tree as acsl
 use Rattle.qed_terms.specs.Meaning as sense
 use Rattle.c_runs.specs.Program.{Function, Facts}
-use Rattle.core_checks.specs.Tree.{Steps}
+use Rattle.c_runs.specs.Tree.{Steps}
 use Rattle.acsl_encode.specs.Readings.{Seen, Terms, Reading, nothing}
 use Rattle.acsl_encode.specs.Calls.{CallsStand}
-use Rattle.acsl_truth.specs.Truth.{calls_of}
+use Rattle.c_runs.specs.Truth.{calls_of}
 use Rattle.acsl_well_typed.specs.WellTyped.{What}
 use Rattle.annotations_encoded.specs.Sights.{Sight, sight_of, value_given, sights_of}
 use Rattle.memory_words.specs.Places.{result, result_offset, answer, answer_offset}

@@ -8,10 +8,10 @@ use Rattle.acsl_trees.specs.declared.heads.Content.{Content}
 use Rattle.acsl_trees.specs.declared.heads.Head.TheVariants as head
 use Rattle.acsl_trees.specs.Tree as acsl
 use Rattle.acsl_names.specs.declared.names.Definition.{Definition}
-use Rattle.acsl_truth.specs.States as labelled
-use Rattle.acsl_truth.specs.States.{Value, span_of}
-use Rattle.acsl_truth.specs.Truth.{calls_of, named}
-use Rattle.acsl_truth.specs.Truth as truth
+use Rattle.c_runs.specs.TruthStates as labelled
+use Rattle.c_runs.specs.TruthStates.{Value, span_of}
+use Rattle.c_runs.specs.Truth.{calls_of, named}
+use Rattle.c_runs.specs.Truth as truth
 use Rattle.qed_terms.specs.Tree.{Tree as Term}
 use Rattle.qed_terms.specs.Meaning as sense
 use Rattle.c_runs.specs.Program.{Facts}

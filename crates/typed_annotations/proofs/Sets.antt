@@ -3,9 +3,9 @@ use Rattle.std.proofs.Common.{◌≡◌, ℕ, ℤ, true, List, [], Option, Some,
 use Rattle.acsl_trees.specs.declared.heads.Head.TheVariants as head
 use Rattle.acsl_trees.specs.Tree.{Tree, node, stop, more}
 use Rattle.acsl_expand.specs.Expansion.{Definition}
-use Rattle.acsl_truth.specs.States as state
-use Rattle.acsl_truth.specs.States.{Value, World}
-use Rattle.acsl_truth.specs.Truth.{calls_of, named, value}
+use Rattle.c_runs.specs.TruthStates as state
+use Rattle.c_runs.specs.TruthStates.{Value, World}
+use Rattle.c_runs.specs.Truth.{calls_of, named, value}
 use Rattle.typed_prog.specs.declared.operators.Variable.{Variable}
 use Rattle.qed_terms.specs.Tree.{Tree as Term}
 use Rattle.qed_terms.specs.Meaning.{Values, World as Logic}

@@ -10,7 +10,7 @@ use Rattle.qed_terms.specs.Tree.{num}
 use Rattle.c_runs.specs.Program as program
 use Rattle.c_runs.specs.Program.{Function, Facts}
 use Rattle.c_runs.specs.States.{global_home}
-use Rattle.core_checks.specs.Tree.{Steps}
+use Rattle.c_runs.specs.Tree.{Steps}
 use Rattle.acsl_encode.specs.Readings.{Slot, home, absent, Pointer, at}
 use Rattle.acsl_encode.specs.Meaning.{Holds}
 use Rattle.acsl_encode.specs.Binders.{Spelled, spelled_at, bound_before, numbered}

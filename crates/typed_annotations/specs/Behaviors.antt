@@ -7,7 +7,7 @@ use Rattle.acsl_trees.specs.Tree as acsl
 use Rattle.acsl_names.specs.declared.names.Definition.{Definition}
 use Rattle.qed_terms.specs.Meaning as sense
 use Rattle.c_runs.specs.Program.{Claim, Measure, Behavior, Contract, Loop, Function, Facts}
-use Rattle.core_checks.specs.Tree.{Steps}
+use Rattle.c_runs.specs.Tree.{Steps}
 use Rattle.acsl_well_typed.specs.WellTyped.{Known}
 use Rattle.acsl_well_typed.specs.Definitions.{known_with}
 use Rattle.annotations_encoded.specs.Sights.{Sights}

@@ -4,7 +4,7 @@ use Rattle.typed_prog.specs.declared.operators.Variable as code
 use Rattle.wp_base.specs.declared.kinds.CellKind.{CellKind}
 use Rattle.acsl_trees.specs.Tree as acsl
 use Rattle.acsl_trees.specs.declared.heads.Head.TheVariants as head
-use Rattle.acsl_truth.specs.Truth.{calls_of}
+use Rattle.c_runs.specs.Truth.{calls_of}
 use Rattle.qed_terms.specs.Meaning as sense
 use Rattle.c_runs.specs.Program.{Facts}
 use Rattle.acsl_encode.specs.Readings.{Reading}

@@ -5,7 +5,7 @@ use Rattle.wp_base.specs.declared.kinds.CellKind.TheVariants as cell
 use Rattle.typed_prog.specs.declared.operators.Variable as code
 use Rattle.typed_prog.specs.declared.operators.Variable.TheVariants as variables
 use Rattle.c_runs.specs.Program.{Variable, Function, Facts}
-use Rattle.core_checks.specs.Tree.{Steps}
+use Rattle.c_runs.specs.Tree.{Steps}
 use Rattle.c_runs.specs.Claims.{struct_cells}
 use Rattle.c_runs.specs.Objects.{is_plain_in}
 use Rattle.acsl_well_typed.specs.WellTyped.{What, an_integer, a_pointer}

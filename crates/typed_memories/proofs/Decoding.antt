@@ -3,7 +3,7 @@ use Rattle.std.proofs.Common.{◌≡◌, ℕ, true, false, ℤ, pos, negsuc, Opt
 use Rattle.wp_base.specs.declared.kinds.CellKind.{CellKind}
 use Rattle.wp_base.specs.declared.kinds.CellKind.TheVariants as cell
 use Rattle.wp_base.specs.Blocks.{Table, block_at, is_cell}
-use Rattle.acsl_truth.specs.States.{Value, number, pointer, addresses, region, of_kind, nothing_of, held}
+use Rattle.c_runs.specs.TruthStates.{Value, number, pointer, addresses, region, of_kind, nothing_of, held}
 use Rattle.c_runs.specs.Program.{Facts}
 use Rattle.c_runs.specs.States.{Local, Memory, seen_with}
 use Rattle.typed_memories.specs.Cells.{Cells, Typed, kind_at, read_in, HasForm, AllTyped, AllClean, AllRead, IsShaped, outside_by, cell_by, decoded}

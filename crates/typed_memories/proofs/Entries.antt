@@ -4,7 +4,7 @@ use Rattle.std.specs.Ordering.{int_eq}
 use Rattle.std.specs.List.{list_all, list_any}
 use Rattle.std.proofs.lemmas.Bool.{false≢true, and_parts}
 use Rattle.qed_terms.specs.Memory.{Entry, Memory, is_at, load, store, same_memory, Region, agree_outside}
-use Rattle.acsl_truth.specs.States.{number, pointer, number_of, block_of, offset_of}
+use Rattle.c_runs.specs.TruthStates.{number, pointer, number_of, block_of, offset_of}
 use Rattle.c_runs.specs.States.{with_cell}
 use Rattle.typed_memories.specs.Cells.{numbers_by, pointers_by, lies_inside}
 use Rattle.typed_memories.specs.Laws.{MapsAre, FrameIs}

@@ -13,7 +13,7 @@ use Rattle.c_kinds.specs.declared.models.Machdep.TheVariants as model
 use Rattle.c_kinds.specs.Models.{long_bits, holds}
 use Rattle.c_kinds.proofs.Ranking.{every_kind, for_each}
 use Rattle.qed_terms.specs.Memory.{Memory, load, is_well_formed, are_well_formed}
-use Rattle.acsl_truth.specs.States.{Value, number, pointer, addresses, region, nothing_of}
+use Rattle.c_runs.specs.TruthStates.{Value, number, pointer, addresses, region, nothing_of}
 use Rattle.c_runs.specs.Program.{Facts}
 use Rattle.c_runs.specs.Scopes.{is_content}
 use Rattle.typed_memories.specs.Cells.{Cells, numbers_by, pointers_by, CleanAt, InRangeAt, is_nothing, FormedAt}

@@ -6,3 +6,11 @@ pub mod Decoding
 pub mod Listing
 pub mod Storing
 pub mod Stated
+pub mod Tables
+pub mod Framing
+pub mod Sets
+pub mod Making
+pub mod Filling
+pub mod Arguments
+pub mod Ending
+pub mod Alone

@@ -6,7 +6,7 @@ use Rattle.wp_base.specs.declared.kinds.CellKind.{CellKind}
 use Rattle.wp_base.specs.declared.kinds.CellKind.TheVariants as cell
 use Rattle.wp_base.specs.Blocks.{Table, or_ended, block_at, block_cells, is_cell}
 use Rattle.qed_terms.specs.Memory.{load}
-use Rattle.acsl_truth.specs.States.{Value, number, pointer, addresses, region, number_of, block_of, offset_of, nothing_of}
+use Rattle.c_runs.specs.TruthStates.{Value, number, pointer, addresses, region, number_of, block_of, offset_of, nothing_of}
 use Rattle.c_runs.specs.States.{Memory}
 use Rattle.typed_memories.specs.Cells.{typed, kind_at, read_in, HasForm, AllRead, Address, listed, row, rows, encoded}
 use Rattle.typed_memories.specs.Laws.{CleanHasMemories, StatesHaveMemories}

@@ -2,7 +2,7 @@
 use Rattle.std.proofs.Common.{◌≡◌, true, false, ℤ, pos, Option, Some, None, refl, sym, ap, ◌∙◌, subst}
 use Rattle.wp_base.specs.declared.kinds.CellKind.{CellKind}
 use Rattle.wp_base.specs.Blocks.{count, same_cell, is_cell}
-use Rattle.acsl_truth.specs.States.{Value, of_kind, nothing_of}
+use Rattle.c_runs.specs.TruthStates.{Value, of_kind, nothing_of}
 use Rattle.c_runs.specs.Program.{Facts}
 use Rattle.c_runs.specs.States.{Memory, with_cell, stored_in}
 use Rattle.c_runs.specs.Scopes.{is_content}

@@ -10,7 +10,7 @@ use Rattle.wp_base.specs.declared.kinds.CellKind.TheVariants as cell
 use Rattle.wp_base.specs.Blocks.{Table, count, block_at, block_cells, same_cell, is_cell}
 use Rattle.qed_terms.specs.Memory as goal
 use Rattle.qed_terms.specs.Memory.{load, Region, is_inside}
-use Rattle.acsl_truth.specs.States.{Value, number, pointer, number_of, block_of, offset_of, of_kind, nothing_of}
+use Rattle.c_runs.specs.TruthStates.{Value, number, pointer, number_of, block_of, offset_of, of_kind, nothing_of}
 use Rattle.c_runs.specs.Program.{Facts}
 use Rattle.c_runs.specs.States.{Memory, with_cell}
 use Rattle.c_runs.specs.Scopes.{is_content}

@@ -7,7 +7,7 @@ use Rattle.wp_base.specs.Blocks.{Table, count, len, is_cell}
 use Rattle.c_kinds.specs.Models.{long_bits, high, difference_kind}
 use Rattle.qed_terms.specs.Memory as goal
 use Rattle.qed_terms.specs.Memory.{load, store, same_memory, is_well_formed, are_well_formed, Region, agree_outside}
-use Rattle.acsl_truth.specs.States.{Value, number, pointer, held}
+use Rattle.c_runs.specs.TruthStates.{Value, number, pointer, held}
 use Rattle.c_runs.specs.Program.{Variable, Facts}
 use Rattle.c_runs.specs.States.{Local, Memory, global_home, with_cell, stored_in, seen_with}
 use Rattle.c_runs.specs.Scopes.{is_content}

@@ -1,2 +1,4 @@
 pub mod Cells
 pub mod Laws
+pub mod Changes
+pub mod ChangeLaws

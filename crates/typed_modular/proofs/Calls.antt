@@ -4,7 +4,7 @@ use Rattle.std.specs.List.{list_all}
 use Rattle.std.proofs.lemmas.Bool.{false≢true}
 use Rattle.wp_base.specs.declared.kinds.CellKind.{CellKind}
 use Rattle.wp_base.specs.Blocks.{count}
-use Rattle.acsl_truth.specs.States.{Value}
+use Rattle.c_runs.specs.TruthStates.{Value}
 use Rattle.c_runs.specs.Program.{Function, Program}
 use Rattle.c_runs.specs.States.{World, Here, Granted}
 use Rattle.c_runs.specs.Operators.{noreturn}
@@ -13,11 +13,11 @@ use Rattle.c_runs.specs.Scopes.{arrived}
 use Rattle.c_runs.specs.Calls.{Eval, gives, stops, nought, unless, turn_by, back_in, keeps_promises, entered_by}
 use Rattle.c_runs.specs.Entry.{are_arguments, all_lead_well, Enters}
 use Rattle.c_runs.specs.Run as spelled
-use Rattle.core_runs.specs.Run.{CoreWorld, Ending, goes_on, exits, returns, stopped, begun}
-use Rattle.core_checks.specs.Tree.{Steps}
-use Rattle.core_checks.specs.Run as run
-use Rattle.segments.specs.Segments.{BodyEnds, behind_call}
-use Rattle.segments.specs.Segments as segment
+use Rattle.c_runs.specs.CoreRun.{CoreWorld, Ending, goes_on, exits, returns, stopped, begun}
+use Rattle.c_runs.specs.Tree.{Steps}
+use Rattle.c_runs.specs.CheckedRun as run
+use Rattle.goal_segments.specs.RunSegments.{BodyEnds, behind_call}
+use Rattle.goal_segments.specs.RunSegments as segment
 use Rattle.goal_segments.specs.Sets.{call_inside}
 use Rattle.goal_segments.specs.Segments as seg
 use Rattle.goal_segments.specs.Segments.{BehindCall, AllSeg, FunctionSeg}

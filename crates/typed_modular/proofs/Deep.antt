@@ -3,13 +3,13 @@ use Rattle.std.proofs.Common.{◌≡◌, ℕ, ℤ, Bool, true, List, [], Option,
 use Rattle.std.specs.Prelude.{int_le}
 use Rattle.std.specs.List.{list_all}
 use Rattle.wp_base.specs.Blocks.{count}
-use Rattle.acsl_truth.specs.States.{Value}
+use Rattle.c_runs.specs.TruthStates.{Value}
 use Rattle.c_runs.specs.Program.{Function, Loop, Facts, Program}
 use Rattle.c_runs.specs.States.{Memory, Here, Granted, seen_by_contract}
 use Rattle.c_runs.specs.Claims.{in_loop}
-use Rattle.core_runs.specs.Run.{CoreWorld}
-use Rattle.core_checks.specs.Tree.{repeat, Steps}
-use Rattle.core_checks.specs.Run as run
+use Rattle.c_runs.specs.CoreRun.{CoreWorld}
+use Rattle.c_runs.specs.Tree.{repeat, Steps}
+use Rattle.c_runs.specs.CheckedRun as run
 use Rattle.goal_segments.specs.Sets.{own_loop, loop_inside}
 use Rattle.goal_segments.specs.Segments.{Seg, AllSeg}
 use Rattle.goal_segments.specs.Laws.{all_among}

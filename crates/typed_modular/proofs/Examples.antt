@@ -4,7 +4,7 @@ use Rattle.std.specs.Prelude.{◌==◌}
 use Rattle.std.proofs.lemmas.Bool.{false≢true}
 use Rattle.c_runs.specs.Program.{Function}
 use Rattle.c_runs.specs.Claims.{at_entry, parts_of}
-use Rattle.core_checks.specs.Tree.{Steps}
+use Rattle.c_runs.specs.Tree.{Steps}
 use Rattle.goal_segments.specs.Told.{with_names, is_param}
 use Rattle.plain_runs.specs.Kept.{some_sets}
 use Rattle.typed_memories.proofs.Tests.{on_test}

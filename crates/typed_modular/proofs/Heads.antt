@@ -5,17 +5,17 @@ use Rattle.std.proofs.lemmas.Bool.{false≢true, leb-true}
 use Rattle.wp_base.specs.declared.kinds.CellKind.{CellKind}
 use Rattle.wp_base.specs.Blocks.{Table, count, is_cell}
 use Rattle.acsl_trees.specs.Tree.{Tree}
-use Rattle.acsl_truth.specs.Told.{is_zero}
-use Rattle.acsl_truth.specs.States.{Value, World as Labelled, is_negative}
-use Rattle.acsl_truth.specs.Allowed.{lies_in, is_named}
+use Rattle.c_runs.specs.TruthTold.{is_zero}
+use Rattle.c_runs.specs.TruthStates.{Value, World as Labelled, is_negative}
+use Rattle.c_runs.specs.TruthAllowed.{lies_in, is_named}
 use Rattle.c_runs.specs.Program.{Variable, Facts, Loop, Behavior}
 use Rattle.c_runs.specs.States.{Local, plain, home, Memory, Here, Granted, hidden, plain_globals, home_from, global_home, cell_by, params_from, held_by, seen, seen_by_contract}
 use Rattle.c_runs.specs.Claims.{lets_cell, may_change, may_change_local, granted_by, granted_in, in_body, in_loop, is_assumed, regions_of}
 use Rattle.c_runs.specs.Entry.{is_home}
 use Rattle.c_runs.specs.Allowed.{SetAllows, AllAllow}
-use Rattle.core_runs.specs.Run.{CoreWorld}
-use Rattle.rte_checks.specs.Tests.{is_set_by}
-use Rattle.core_checks.specs.Tree.{Steps}
+use Rattle.c_runs.specs.CoreRun.{CoreWorld}
+use Rattle.c_runs.specs.Tests.{is_set_by}
+use Rattle.c_runs.specs.Tree.{Steps}
 use Rattle.goal_segments.specs.Sets.{own_or, own_loop}
 use Rattle.goal_segments.specs.Segments.{LocalGoesOn, lets_at_head, own_regions, AtHead}
 use Rattle.goal_segments.specs.Told.{may_change_global}
@@ -23,7 +23,7 @@ use Rattle.plain_runs.specs.Kept.{some_sets, some_temps}
 use Rattle.typed_memories.proofs.Tests.{on_test, chosen, unchosen}
 use Rattle.typed_memories.proofs.CellKinds.{no_cell_of}
 use Rattle.typed_memories.proofs.Decoding.{no_hidden_cell}
-use Rattle.memory_changes.proofs.Tables.{cell_below, test_lt, not_le_test}
+use Rattle.typed_memories.proofs.Tables.{cell_below, test_lt, not_le_test}
 use Rattle.program_steps.specs.Temporaries.{Temporaries}
 use Rattle.typed_runs.specs.Fitting.{Shape, InScope, LoopFits}
 use Rattle.typed_runs.specs.Kept.{home_at, HoldsValue, Holds, KeptMemory, Kept}

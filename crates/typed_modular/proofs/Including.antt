@@ -9,8 +9,8 @@ use Rattle.wp_base.specs.Blocks.{count, same_cell}
 use Rattle.c_kinds.proofs.Converting.{test_le}
 use Rattle.qed_terms.specs.Operators.{is_equal}
 use Rattle.acsl_trees.specs.Tree.{Tree}
-use Rattle.acsl_truth.specs.States.{Value, World as Labelled, span_of, cells_of, covers, is_negative}
-use Rattle.acsl_truth.specs.Allowed.{has_kind, lies_in}
+use Rattle.c_runs.specs.TruthStates.{Value, World as Labelled, span_of, cells_of, covers, is_negative}
+use Rattle.c_runs.specs.TruthAllowed.{has_kind, lies_in}
 use Rattle.c_runs.specs.Program.{Facts, Loop, Behavior}
 use Rattle.c_runs.specs.States.{World, Here, Granted, seen}
 use Rattle.c_runs.specs.Claims.{lets_cell, may_change, granted_by, granted_in, of_caller, in_body, in_loop, is_assumed}
@@ -20,7 +20,7 @@ use Rattle.plain_runs.specs.Kept.{AllBelow}
 use Rattle.plain_runs.proofs.Told.{equal_is}
 use Rattle.typed_memories.proofs.Tests.{both_so, or_first, or_second}
 use Rattle.typed_memories.proofs.CellKinds.{same_kind}
-use Rattle.memory_changes.proofs.Tables.{test_lt, lt_test}
+use Rattle.typed_memories.proofs.Tables.{test_lt, lt_test}
 use Rattle.typed_runs.specs.Kept.{AllCounted}
 use Rattle.typed_runs.proofs.Keeping.{le_then, callers_cells}
 use Rattle.typed_modular.specs.Solid.{IsSolid, AllSolid, SetIsSolid, AllAreSolid}

@@ -3,15 +3,15 @@ use Rattle.std.proofs.Common.{◌≡◌, ℕ, zero, suc, ◌<◌, ℤ, Bool, tru
 use Rattle.std.specs.List.{list_all}
 use Rattle.std.proofs.lemmas.Bool.{false≢true}
 use Rattle.wp_base.specs.Blocks.{count}
-use Rattle.acsl_truth.specs.States.{World as Labelled}
+use Rattle.c_runs.specs.TruthStates.{World as Labelled}
 use Rattle.c_runs.specs.Program.{Variable, Function, Loop, Measure, Facts, Program}
 use Rattle.c_runs.specs.States.{Here, Granted, seen, seen_by_contract}
 use Rattle.c_runs.specs.Claims as broken
 use Rattle.c_runs.specs.Claims.{Stop, or_stop, claimed, in_body, in_loop, measure_of, variant_holds}
-use Rattle.core_runs.specs.Run.{CoreWorld, Ending, goes_on, exits, returns, stopped, then_do, unless, one_turn, in_world}
-use Rattle.core_checks.specs.Tree.{repeat, Steps}
-use Rattle.core_checks.specs.Run as run
-use Rattle.segments.specs.Segments.{by_exit, by_return, by_stop}
+use Rattle.c_runs.specs.CoreRun.{CoreWorld, Ending, goes_on, exits, returns, stopped, then_do, unless, one_turn, in_world}
+use Rattle.c_runs.specs.Tree.{repeat, Steps}
+use Rattle.c_runs.specs.CheckedRun as run
+use Rattle.goal_segments.specs.RunSegments.{by_exit, by_return, by_stop}
 use Rattle.goal_segments.specs.Sets.{own_loop, loop_inside}
 use Rattle.goal_segments.specs.Segments.{AtHead, Seg, AllSeg, entry_fails, pass_ends, again_fails}
 use Rattle.goal_segments.specs.Laws.{all_among}

@@ -5,7 +5,7 @@ use Rattle.std.proofs.lemmas.Int.{ints}
 use Rattle.std.proofs.Math.IntN.{suc_ℤ-*ℤ, *ℤ_comm, suc_ℤ}
 use Rattle.wp_base.specs.declared.kinds.CellKind.{CellKind}
 use Rattle.qed_terms.specs.Operators.{is_equal}
-use Rattle.acsl_truth.specs.States.{Value, Span, region, one_address, span_of, address_at}
+use Rattle.c_runs.specs.TruthStates.{Value, Span, region, one_address, span_of, address_at}
 use Rattle.acsl_encode.specs.Meaning.{IsStretch}
 use Rattle.acsl_encode.proofs.Stretches.{object_stretch, range_stretch}
 use Rattle.goal_segments.specs.Sets.{first_cell, last_end}

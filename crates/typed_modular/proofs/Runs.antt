@@ -1,16 +1,16 @@
 -- The modular law: level by level, and then for whole runs.
 use Rattle.std.proofs.Common.{◌≡◌, ℕ, zero, suc, ℤ, Bool, true, false, if◌then◌else◌, List, [], Option, Some, None, refl, sym, subst}
 use Rattle.wp_base.specs.Blocks.{count}
-use Rattle.acsl_truth.specs.States.{Value}
+use Rattle.c_runs.specs.TruthStates.{Value}
 use Rattle.c_runs.specs.Program.{Function, Program}
 use Rattle.c_runs.specs.States.{Memory, World, Here}
 use Rattle.c_runs.specs.Claims.{Stop, spent, decreased, measure_of, at_entry, here_in, in_loop}
 use Rattle.c_runs.specs.Calls.{Eval, gives, stops, unless, turn_by, entered_by, found as found_by}
 use Rattle.c_runs.specs.Entry.{Enters}
 use Rattle.c_runs.specs.Run as spelled
-use Rattle.core_runs.specs.Run.{stopped, begun}
-use Rattle.core_checks.specs.Tree.{Steps}
-use Rattle.core_checks.specs.Run as run
+use Rattle.c_runs.specs.CoreRun.{stopped, begun}
+use Rattle.c_runs.specs.Tree.{Steps}
+use Rattle.c_runs.specs.CheckedRun as run
 use Rattle.goal_segments.specs.Sets.{own_loop}
 use Rattle.goal_segments.specs.Laws.{IsClosed, NoneFails, GoesWell}
 use Rattle.goal_segments.specs.Told.{is_param, IsGood}

@@ -7,17 +7,17 @@ use Rattle.wp_base.specs.Blocks.{Table, is_cell}
 use Rattle.typed_prog.specs.declared.types.CoreType.{CoreType}
 use Rattle.typed_prog.specs.declared.operators.Path.{Path}
 use Rattle.typed_prog.specs.Tree as tree
-use Rattle.acsl_truth.specs.States.{Value, pointer, block_of, offset_of}
+use Rattle.c_runs.specs.TruthStates.{Value, pointer, block_of, offset_of}
 use Rattle.c_runs.specs.Program.{Program}
 use Rattle.c_runs.specs.States.{Here, Granted, plain, with_local, with_memory, stored_in, plain_globals}
 use Rattle.c_runs.specs.Objects.{plain_root, is_plain_in, cell_of, address, along, start as start_at}
 use Rattle.c_runs.specs.Claims.{may_change}
 use Rattle.c_runs.specs.Effects.{granted, cell_written, kind_there, wrote_act}
-use Rattle.core_runs.specs.Run.{CoreWorld, Ending, goes_on, with_eval, in_world}
-use Rattle.rte_checks.specs.Checks.{Check}
-use Rattle.core_checks.specs.Tree.{Goal, Step, set, store, start, call, branch, repeat, around, exit, give, claim, scope, Steps}
-use Rattle.core_checks.specs.Run as run
-use Rattle.core_checks.specs.Run.{place_test, way_values, stored_value}
+use Rattle.c_runs.specs.CoreRun.{CoreWorld, Ending, goes_on, with_eval, in_world}
+use Rattle.c_runs.specs.Checks.{Check}
+use Rattle.c_runs.specs.Tree.{Goal, Step, set, store, start, call, branch, repeat, around, exit, give, claim, scope, Steps}
+use Rattle.c_runs.specs.CheckedRun as run
+use Rattle.c_runs.specs.CheckedRun.{place_test, way_values, stored_value}
 use Rattle.goal_segments.specs.Segments.{is_single, no_deeper}
 use Rattle.typed_memories.proofs.CellKinds.{no_cell_of}
 use Rattle.typed_memories.proofs.Decoding.{no_hidden_cell}

@@ -1,14 +1,14 @@
 -- The modular law of programs as they are spelled.
 use Rattle.std.proofs.Common.{List, sym, ap, subst}
 use Rattle.std.specs.Option.{option_map}
-use Rattle.acsl_truth.specs.States.{Value}
+use Rattle.c_runs.specs.TruthStates.{Value}
 use Rattle.c_runs.specs.Program.{Stmts, Function, Program}
 use Rattle.c_runs.specs.States.{Memory}
 use Rattle.c_runs.specs.Entry.{Enters}
-use Rattle.core_checks.specs.Told.{normal_function, normal}
-use Rattle.core_checks.specs.Adding.{function_of, add_checks}
+use Rattle.c_runs.specs.CheckedTold.{normal_function, normal}
+use Rattle.c_runs.specs.Adding.{function_of, add_checks}
 use Rattle.goal_segments.specs.Laws.{GoesWell}
-use Rattle.segments.proofs.Whole.{spelled_is}
+use Rattle.goal_segments.proofs.Whole.{spelled_is}
 use Rattle.typed_modular.specs.Laws.{ModularAsSpelled}
 use Rattle.typed_modular.proofs.Runs.{modular}
 

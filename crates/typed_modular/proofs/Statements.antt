@@ -4,20 +4,20 @@ use Rattle.std.specs.List.{list_all}
 use Rattle.std.proofs.lemmas.Bool.{and_parts}
 use Rattle.wp_base.specs.Blocks.{count}
 use Rattle.typed_prog.specs.Tree as tree
-use Rattle.acsl_truth.specs.States.{Value}
+use Rattle.c_runs.specs.TruthStates.{Value}
 use Rattle.c_runs.specs.Program.{Function, Loop, Program}
 use Rattle.c_runs.specs.States.{World, Here, Granted, is_nonzero, seen}
 use Rattle.c_runs.specs.Claims.{Stop, required, decreased, measure_of, at_entry, in_body, in_loop, here_in, granted_by, granted_in, parts_of}
 use Rattle.c_runs.specs.Scopes.{entered}
 use Rattle.c_runs.specs.Calls.{Eval, gives, stops, unless, turn_by, entered_by, found as found_by}
 use Rattle.c_runs.specs.Entry.{are_arguments, all_lead_well}
-use Rattle.core_runs.specs.Run.{CoreWorld, Ending, goes_on, exits, returns, stopped, then_do, with_eval, in_world, scope_end, begun, block_end}
-use Rattle.rte_checks.specs.Checks.{Check}
-use Rattle.rte_checks.specs.Tests.{is_met}
-use Rattle.core_checks.specs.Tree.{Goal, Step, set, store, start, call, branch, repeat, around, exit, give, claim, scope, Steps, end, then_}
-use Rattle.core_checks.specs.Run as run
-use Rattle.core_checks.specs.Run.{is_met_in}
-use Rattle.segments.specs.Segments.{Asks, stopped_in, by_exit, by_return, by_stop}
+use Rattle.c_runs.specs.CoreRun.{CoreWorld, Ending, goes_on, exits, returns, stopped, then_do, with_eval, in_world, scope_end, begun, block_end}
+use Rattle.c_runs.specs.Checks.{Check}
+use Rattle.c_runs.specs.Tests.{is_met}
+use Rattle.c_runs.specs.Tree.{Goal, Step, set, store, start, call, branch, repeat, around, exit, give, claim, scope, Steps, end, then_}
+use Rattle.c_runs.specs.CheckedRun as run
+use Rattle.c_runs.specs.CheckedRun.{is_met_in}
+use Rattle.goal_segments.specs.RunSegments.{Asks, stopped_in, by_exit, by_return, by_stop}
 use Rattle.goal_segments.specs.Sets.{own_loop, loop_inside, call_inside}
 use Rattle.goal_segments.specs.Segments as seg
 use Rattle.goal_segments.specs.Segments.{BehindCall, no_deeper, Seg, AllSeg}

@@ -3,7 +3,7 @@ use Rattle.std.specs.Prelude.{◌≡◌, ℕ, true, false, pos, [], ◌∷◌}
 use Rattle.wp_base.specs.declared.kinds.CellKind.{CellKind}
 use Rattle.wp_base.specs.declared.kinds.CellKind.TheVariants as cell
 use Rattle.wp_base.specs.declared.kinds.Kind.TheVariants as kind
-use Rattle.acsl_truth.specs.States.{Value, region, covers}
+use Rattle.c_runs.specs.TruthStates.{Value, region, covers}
 use Rattle.c_runs.specs.States.{Granted}
 use Rattle.goal_segments.specs.Sets.{region_inside}
 use Rattle.c_runs.specs.Program.{Facts}

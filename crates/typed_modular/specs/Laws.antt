@@ -1,16 +1,16 @@
 -- The modular law for programs with blocks and pointers.
 use Rattle.std.specs.Prelude.{◌≡◌, ℕ, Bool, true, ℤ, pos, List, length, Some}
 use Rattle.wp_base.specs.declared.kinds.CellKind.{CellKind}
-use Rattle.acsl_truth.specs.States.{Value, Span, region, one_address, span_of}
+use Rattle.c_runs.specs.TruthStates.{Value, Span, region, one_address, span_of}
 use Rattle.acsl_encode.specs.Meaning.{IsStretch}
 use Rattle.c_runs.specs.Program.{Stmts, Function, Program}
 use Rattle.c_runs.specs.States.{Memory}
 use Rattle.c_runs.specs.Entry.{Enters}
 use Rattle.c_runs.specs.Run as spelled
-use Rattle.core_checks.specs.Told.{normal}
-use Rattle.core_checks.specs.Adding.{add_checks}
-use Rattle.core_checks.specs.Tree.{Steps}
-use Rattle.core_checks.specs.Run.{run_function}
+use Rattle.c_runs.specs.CheckedTold.{normal}
+use Rattle.c_runs.specs.Adding.{add_checks}
+use Rattle.c_runs.specs.Tree.{Steps}
+use Rattle.c_runs.specs.CheckedRun.{run_function}
 use Rattle.goal_segments.specs.Sets.{first_cell, last_end}
 use Rattle.goal_segments.specs.Laws.{IsClosed, NoneFails, GoesWell}
 use Rattle.typed_runs.specs.Fitting.{FitsProgram}

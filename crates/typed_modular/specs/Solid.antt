@@ -3,14 +3,14 @@
 use Rattle.std.specs.Prelude.{◌≡◌, ◌<◌, ℕ, Bool, true, ◌&&◌, ℤ, pos, int_le, int_lt, List, [], ◌∷◌, Option, Some, None, slice_get}
 use Rattle.qed_terms.specs.Operators.{is_equal}
 use Rattle.acsl_trees.specs.Tree.{Tree}
-use Rattle.acsl_truth.specs.States.{Value, State, World, number, span_of, covers}
-use Rattle.acsl_truth.specs.Allowed.{is_named}
+use Rattle.c_runs.specs.TruthStates.{Value, State, World, number, span_of, covers}
+use Rattle.c_runs.specs.TruthAllowed.{is_named}
 use Rattle.c_runs.specs.Program.{Variable, Behavior, Loop, Function, Facts, Program}
 use Rattle.c_runs.specs.States.{Memory, hidden, seen, seen_by_contract}
 use Rattle.c_runs.specs.Claims.{struct_cells, at_entry, parts_of, regions_of}
 use Rattle.c_runs.specs.Entry.{are_arguments, all_lead_well}
-use Rattle.core_runs.specs.Run.{CoreWorld}
-use Rattle.core_checks.specs.Tree.{Step, set, store, start, call, branch, repeat, around, exit, give, claim, scope, Steps, end, then_}
+use Rattle.c_runs.specs.CoreRun.{CoreWorld}
+use Rattle.c_runs.specs.Tree.{Step, set, store, start, call, branch, repeat, around, exit, give, claim, scope, Steps, end, then_}
 use Rattle.goal_segments.specs.Sets.{first_cell, last_end}
 use Rattle.goal_segments.specs.Told.{IsGood, with_names, is_param}
 use Rattle.plain_runs.specs.Kept.{some_sets}

@@ -10,11 +10,11 @@ use Rattle.typed_prog.specs.Tree as tree
 use Rattle.c_runs.specs.Program.{Function, Facts, Program}
 use Rattle.c_runs.specs.Operators.{access}
 use Rattle.c_runs.specs.Objects.{plain_root, is_pointed}
-use Rattle.core_runs.specs.Core.{Target, Core, set, store, start, call, branch, repeat, around, exit, give, claim, scope, Cores, end, then_}
-use Rattle.rte_checks.specs.Checks.{checks_of, all_checks, index_checks, one_if}
-use Rattle.core_checks.specs.Tree.{Steps}
-use Rattle.core_checks.specs.Adding as adding
-use Rattle.core_checks.specs.Adding.{goal_of, step_of, steps_of, function_of, add_checks}
+use Rattle.c_runs.specs.Core.{Target, Core, set, store, start, call, branch, repeat, around, exit, give, claim, scope, Cores, end, then_}
+use Rattle.c_runs.specs.Checks.{checks_of, all_checks, index_checks, one_if}
+use Rattle.c_runs.specs.Tree.{Steps}
+use Rattle.c_runs.specs.Adding as adding
+use Rattle.c_runs.specs.Adding.{goal_of, step_of, steps_of, function_of, add_checks}
 use Rattle.goal_segments.specs.Told.{with_names, is_param, goal_temp}
 use Rattle.plain_states.proofs.Scoping.{none_some}
 use Rattle.plain_states.proofs.Calling.{some_same}

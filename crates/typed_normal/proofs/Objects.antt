@@ -13,8 +13,8 @@ use Rattle.c_runs.specs.Program.{Facts}
 use Rattle.c_runs.specs.Objects.{plain_root, cell_of}
 use Rattle.c_runs.specs.Values.{kind_at}
 use Rattle.c_runs.specs.Effects.{changed}
-use Rattle.core_runs.specs.Core.{Target, nowhere, temporary, store, call}
-use Rattle.normal_stmts.specs.Normal.{normal_function}
+use Rattle.c_runs.specs.Core.{Target, nowhere, temporary, store, call}
+use Rattle.c_runs.specs.Normal.{normal_function}
 use Rattle.program_steps.specs.Temporaries.{Temporaries, no_temporaries}
 use Rattle.value_terms.specs.Typed.{given_by, kind_given, ObjectIsTyped, AreTyped}
 use Rattle.typed_runs.specs.Fitting.{Shape, InScope, scope_at, LeadsTo, to_local, to_global, to_cell, Takes}

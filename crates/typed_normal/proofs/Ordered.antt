@@ -7,10 +7,10 @@ use Rattle.typed_prog.specs.declared.operators.Connective.{Connective}
 use Rattle.typed_prog.specs.Tree as tree
 use Rattle.c_runs.specs.Program.{Variable}
 use Rattle.c_runs.specs.Values.{decides, agree}
-use Rattle.core_runs.specs.Core.{set, branch, around, exit, Cores, end, then_, join, one}
-use Rattle.core_checks.specs.Adding.{step_of, steps_of}
-use Rattle.rte_checks.specs.Checks.{has_checks}
-use Rattle.normal_stmts.specs.Plans.{constant_of, Made, Tests, Sent, Mades, Plan, save, sent_made, jump, leaf, leafy, straight, crossed, logic_test, flag, logic_made, logic_plan, Condition, jumps_, tests_, condition, next_of, fork, into, choice_made, save_if}
+use Rattle.c_runs.specs.Core.{set, branch, around, exit, Cores, end, then_, join, one}
+use Rattle.c_runs.specs.Adding.{step_of, steps_of}
+use Rattle.c_runs.specs.Checks.{has_checks}
+use Rattle.c_runs.specs.Plans.{constant_of, Made, Tests, Sent, Mades, Plan, save, sent_made, jump, leaf, leafy, straight, crossed, logic_test, flag, logic_made, logic_plan, Condition, jumps_, tests_, condition, next_of, fork, into, choice_made, save_if}
 use Rattle.program_steps.specs.Temporaries.{Temporaries, out_at, uses, some_use, live, all_live}
 use Rattle.typed_normal.specs.Order.{KeepsOrder, KeepOrder}
 

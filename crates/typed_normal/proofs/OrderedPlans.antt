@@ -14,8 +14,8 @@ use Rattle.c_runs.specs.Program.{Variable}
 use Rattle.c_runs.specs.Values.{has_effect}
 use Rattle.c_runs.specs.Effects.{changed}
 use Rattle.c_runs.specs.Run.{first_operand, other_operands, old_value, updating}
-use Rattle.core_runs.specs.Core.{temporary, store, call, Cores, join, one}
-use Rattle.normal_stmts.specs.Plans.{no_value, Made, Sent, Mades, kept, save, leafy, logic_plan, choice_made, need, put_before, op_made, save_if, pure, pures, nothing_made, made_if, first_value, stored_made, called_sent, sent_value, sending, whole_made, operands, saved_operands, assigned_made, changed_made, postfix_made, effect_plan, plans, first_plan}
+use Rattle.c_runs.specs.Core.{temporary, store, call, Cores, join, one}
+use Rattle.c_runs.specs.Plans.{no_value, Made, Sent, Mades, kept, save, leafy, logic_plan, choice_made, need, put_before, op_made, save_if, pure, pures, nothing_made, made_if, first_value, stored_made, called_sent, sent_value, sending, whole_made, operands, saved_operands, assigned_made, changed_made, postfix_made, effect_plan, plans, first_plan}
 use Rattle.program_steps.specs.Temporaries.{Temporaries, no_temporaries, uses, some_use}
 use Rattle.typed_normal.proofs.Ordered.{Sets, In, With, of_either, of_others, without, before, Good, join_good, end_good, MadeOk, MadesOk, SentOk, PlanOk, save_ok, save_if_ok, leaf_ok, leafy_ok, logic_ok, choice_ok}
 

@@ -10,12 +10,12 @@ use Rattle.qed_terms.specs.Operators.{is_equal}
 use Rattle.c_runs.specs.Program.{Variable, Loop, Function, Stmt, evaluate, block, initial, choose, loop, switch, case_of, default, break, continue, return_of, assert, Stmts, stop, more}
 use Rattle.c_runs.specs.Values.{has_effect, have_effect}
 use Rattle.c_runs.specs.Run.{updating, is_case, is_default}
-use Rattle.core_runs.specs.Core.{Target, nowhere, place, variable, Core, store, start, call, branch, repeat, around, exit, give, Cores, end, then_, join, one}
-use Rattle.core_checks.specs.Tree.{Steps}
-use Rattle.core_checks.specs.Adding.{goal_of, step_of, function_of}
+use Rattle.c_runs.specs.Core.{Target, nowhere, place, variable, Core, store, start, call, branch, repeat, around, exit, give, Cores, end, then_, join, one}
+use Rattle.c_runs.specs.Tree.{Steps}
+use Rattle.c_runs.specs.Adding.{goal_of, step_of, function_of}
 use Rattle.goal_segments.specs.Told.{goal_temp}
-use Rattle.normal_stmts.specs.Plans.{no_value, Made, Mades, Tests, needs, need, save_if, pure, pures, operands, first_plan, planned, condition, next_of}
-use Rattle.normal_stmts.specs.Normal.{Did, is_temp, is_settled, save_unless, dropped, called_into, called_to, plain_store, stored, effect_of, started, loop_test, loop_step, given, is_label, whole_switch, close, truth_of, label_test, index_of, dispatch, up, loop_body, stmt, stmts, groups, normal_function}
+use Rattle.c_runs.specs.Plans.{no_value, Made, Mades, Tests, needs, need, save_if, pure, pures, operands, first_plan, planned, condition, next_of}
+use Rattle.c_runs.specs.Normal.{Did, is_temp, is_settled, save_unless, dropped, called_into, called_to, plain_store, stored, effect_of, started, loop_test, loop_step, given, is_label, whole_switch, close, truth_of, label_test, index_of, dispatch, up, loop_body, stmt, stmts, groups, normal_function}
 use Rattle.plain_states.proofs.Scoping.{none_some}
 use Rattle.plain_states.proofs.Calling.{some_same}
 use Rattle.program_steps.specs.Temporaries.{Temporaries, no_temporaries, out_at, uses, some_use, goal_uses, all_live}

@@ -19,8 +19,8 @@ use Rattle.c_runs.specs.Values.{has_effect, have_effect}
 use Rattle.c_runs.specs.Objects.{cell_of}
 use Rattle.c_runs.specs.Effects.{changed}
 use Rattle.c_runs.specs.Run.{old_value, updating}
-use Rattle.core_runs.specs.Core.{store, join, one}
-use Rattle.normal_stmts.specs.Plans.{no_value, Made, Mades, Plan, save, leafy, logic_plan, choice_made, need, put_before, save_if, pure, pures, nothing_made, made_if, first_value, stored_made, called_sent, sent_value, sending, whole_made, operands, saved_operands, assigned_made, changed_made, postfix_made, effect_plan, plans, first_plan}
+use Rattle.c_runs.specs.Core.{store, join, one}
+use Rattle.c_runs.specs.Plans.{no_value, Made, Mades, Plan, save, leafy, logic_plan, choice_made, need, put_before, save_if, pure, pures, nothing_made, made_if, first_value, stored_made, called_sent, sent_value, sending, whole_made, operands, saved_operands, assigned_made, changed_made, postfix_made, effect_plan, plans, first_plan}
 use Rattle.plain_states.proofs.Scoping.{none_some, found_below}
 use Rattle.plain_states.proofs.Calling.{some_same}
 use Rattle.plain_normal.specs.Single.{is_single, are_single}

@@ -4,7 +4,7 @@ use Rattle.wp_base.specs.declared.kinds.CellKind.{CellKind}
 use Rattle.typed_prog.specs.declared.types.CoreType.{CoreType}
 use Rattle.typed_prog.specs.Tree as t
 use Rattle.c_runs.specs.Values.{has_effect}
-use Rattle.normal_stmts.specs.Plans.{Made, Mades, kept, leafy, logic_plan, choice_made, need, put_before, op_made, save_if, pure, pures}
+use Rattle.c_runs.specs.Plans.{Made, Mades, kept, leafy, logic_plan, choice_made, need, put_before, op_made, save_if, pure, pures}
 use Rattle.typed_runs.specs.Fitting.{InScope}
 use Rattle.typed_normal.specs.Spelled.{spelled_scope, IsKinded, AllAreKinded, NodeIsKinded}
 use Rattle.typed_normal.specs.Typed.{core_scope}

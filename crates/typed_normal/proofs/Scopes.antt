@@ -16,8 +16,8 @@ use Rattle.typed_prog.specs.declared.operators.Variable.TheVariants as variable
 use Rattle.typed_prog.specs.Tree as t
 use Rattle.c_runs.specs.Program.{Variable, Function, Facts, Stmt, evaluate, block, initial, choose, loop, switch, case_of, default, break, continue, return_of, assert, Stmts, stop, more}
 use Rattle.c_runs.specs.Objects.{cell_of}
-use Rattle.core_runs.specs.Core.{Target, Core, set, store, start, call, branch, repeat, around, exit, give, claim, scope, Cores, end, then_}
-use Rattle.core_checks.specs.Adding.{goal_of, step_of, steps_of}
+use Rattle.c_runs.specs.Core.{Target, Core, set, store, start, call, branch, repeat, around, exit, give, claim, scope, Cores, end, then_}
+use Rattle.c_runs.specs.Adding.{goal_of, step_of, steps_of}
 use Rattle.goal_segments.specs.Told.{with_name, with_names}
 use Rattle.plain_runs.specs.Touched.{is_local, goal_sets, sets, some_sets}
 use Rattle.value_terms.specs.Typed.{ObjectIsTyped}

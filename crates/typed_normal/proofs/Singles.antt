@@ -11,9 +11,9 @@ use Rattle.typed_prog.specs.Tree as t
 use Rattle.c_runs.specs.Values.{has_effect, have_effect}
 use Rattle.c_runs.specs.Effects.{changed}
 use Rattle.c_runs.specs.Run.{old_value, updating}
-use Rattle.core_runs.specs.Core.{Target, nowhere, place, variable, store, start, call, give, join, one}
-use Rattle.normal_stmts.specs.Plans.{Made, no_value, needs, need, save_if, pure, pures, operands, first_plan, planned}
-use Rattle.normal_stmts.specs.Normal.{Did, is_temp, save_unless, dropped, called_into, called_to, plain_store, stored, effect_of, started, loop_test, loop_step, given}
+use Rattle.c_runs.specs.Core.{Target, nowhere, place, variable, store, start, call, give, join, one}
+use Rattle.c_runs.specs.Plans.{Made, no_value, needs, need, save_if, pure, pures, operands, first_plan, planned}
+use Rattle.c_runs.specs.Normal.{Did, is_temp, save_unless, dropped, called_into, called_to, plain_store, stored, effect_of, started, loop_test, loop_step, given}
 use Rattle.value_terms.specs.Typed.{kind_given, AreTyped}
 use Rattle.plain_normal.specs.Single.{is_single, are_single}
 use Rattle.plain_normal.proofs.Done.{first_types, take_first, or_false, on_test}

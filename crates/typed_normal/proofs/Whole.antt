@@ -1,8 +1,8 @@
 -- Spelled programs whose expressions have the kinds that are wanted have typed core programs.
 use Rattle.std.proofs.Common.{◌≡◌, ℕ, [], Option, Some, None, option_map, refl, subst}
 use Rattle.c_runs.specs.Program.{Stmts, Function, Program}
-use Rattle.core_runs.specs.Core.{Cores}
-use Rattle.normal_stmts.specs.Normal.{normal, normal_function}
+use Rattle.c_runs.specs.Core.{Cores}
+use Rattle.c_runs.specs.Normal.{normal, normal_function}
 use Rattle.plain_states.proofs.Scoping.{none_some}
 use Rattle.plain_states.proofs.Calling.{some_same}
 use Rattle.goal_segments.specs.Told.{is_param}

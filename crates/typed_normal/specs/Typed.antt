@@ -10,8 +10,8 @@ use Rattle.typed_prog.specs.declared.operators.Path.{Path}
 use Rattle.typed_prog.specs.Tree as t
 use Rattle.c_runs.specs.Program.{Variable, Function, Facts, Program}
 use Rattle.c_runs.specs.Objects.{cell_of}
-use Rattle.core_runs.specs.Core.{Target, nowhere, temporary, place, variable as to_variable, Core, set, store, start, call, branch, repeat, around, exit, give, claim, scope, Cores, end, then_}
-use Rattle.core_checks.specs.Adding.{steps_of}
+use Rattle.c_runs.specs.Core.{Target, nowhere, temporary, place, variable as to_variable, Core, set, store, start, call, branch, repeat, around, exit, give, claim, scope, Cores, end, then_}
+use Rattle.c_runs.specs.Adding.{steps_of}
 use Rattle.goal_segments.specs.Told.{with_names, is_param}
 use Rattle.plain_runs.specs.Kept.{some_sets}
 use Rattle.run_blocks.specs.Ends.{is_short}

@@ -10,15 +10,15 @@ use Rattle.wp_base.specs.declared.kinds.Kind.{Kind}
 use Rattle.wp_base.specs.Blocks.{Table, count, cells_of, block_at, block_of, block_cells, has_cell, is_cell, len}
 use Rattle.c_kinds.specs.Models.{high, difference_kind}
 use Rattle.typed_prog.specs.Tree as tree
-use Rattle.acsl_truth.specs.States.{Value}
-use Rattle.acsl_truth.specs.Truth.{value_at}
+use Rattle.c_runs.specs.TruthStates.{Value}
+use Rattle.c_runs.specs.Truth.{value_at}
 use Rattle.c_runs.specs.Program.{Variable, Facts}
 use Rattle.c_runs.specs.States.{plain, home, Memory, World, no_locals, with_local, with_memory, stored_in}
 use Rattle.c_runs.specs.Scopes.{is_content, with_block, param_made, params_made, arrived}
 use Rattle.c_runs.specs.Entry.{is_value, leads_well, are_arguments, all_lead_well}
 use Rattle.c_runs.specs.Values.{Temps}
-use Rattle.core_runs.specs.Run.{CoreWorld, in_world, begun}
-use Rattle.rte_checks.specs.Tests.{totals}
+use Rattle.c_runs.specs.CoreRun.{CoreWorld, in_world, begun}
+use Rattle.c_runs.specs.Tests.{totals}
 use Rattle.goal_segments.specs.Told.{with_name, is_param}
 use Rattle.plain_runs.specs.Fitting.{IsGood}
 use Rattle.plain_runs.proofs.Scopes.{zero_of}
@@ -26,11 +26,11 @@ use Rattle.c_runs.specs.Calls.{nought}
 use Rattle.typed_memories.proofs.Tests.{on_test, chosen, unchosen, not_both, both_so, same_number, or_left}
 use Rattle.typed_memories.proofs.CellKinds.{same_kind}
 use Rattle.typed_memories.proofs.Stated.{content_has_form}
-use Rattle.memory_changes.specs.Changes.{StillThere}
-use Rattle.memory_changes.specs.Laws.{ParameterIsMade}
-use Rattle.memory_changes.proofs.Tables.{not_count, new_block, other_block, stay_made}
-use Rattle.memory_changes.proofs.Making.{hidden_before}
-use Rattle.memory_changes.proofs.Arguments.{parameters_hold_arguments}
+use Rattle.typed_memories.specs.Changes.{StillThere}
+use Rattle.typed_memories.specs.ChangeLaws.{ParameterIsMade}
+use Rattle.typed_memories.proofs.Tables.{not_count, new_block, other_block, stay_made}
+use Rattle.typed_memories.proofs.Making.{hidden_before}
+use Rattle.typed_memories.proofs.Arguments.{parameters_hold_arguments}
 use Rattle.run_blocks.specs.Ends.{is_short}
 use Rattle.run_blocks.proofs.Standing.{still}
 use Rattle.run_blocks.proofs.Good.{content_more, good_shaped, good_contents, have_blocks, goes_good}

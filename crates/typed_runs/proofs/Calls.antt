@@ -2,8 +2,8 @@
 use Rattle.std.proofs.Common.{◌≡◌, ℕ, zero, suc, ℤ, Bool, true, false, if◌then◌else◌, List, [], ◌∷◌, map, Option, Some, None, refl, sym, ap, ◌∙◌, subst}
 use Rattle.wp_base.specs.declared.kinds.CellKind.{CellKind}
 use Rattle.wp_base.specs.Blocks.{count}
-use Rattle.acsl_truth.specs.Told.{Tree}
-use Rattle.acsl_truth.specs.States.{Value, World as Labelled}
+use Rattle.c_runs.specs.TruthTold.{Tree}
+use Rattle.c_runs.specs.TruthStates.{Value, World as Labelled}
 use Rattle.c_runs.specs.Program.{Facts, Behavior, Function, Contract, Program}
 use Rattle.c_runs.specs.States.{World, Here, Granted}
 use Rattle.c_runs.specs.Claims.{Stop, here_in, granted_by, granted_in, parts_of, required, decreased, is_assumed, measure_of, at_entry, entered_well, ensured, of_caller}
@@ -11,13 +11,13 @@ use Rattle.c_runs.specs.Scopes.{is_content, left, arrived}
 use Rattle.c_runs.specs.Calls.{Eval, gives, stops, nought, unless, turn_by, back_in, keeps_promises, entered_by, found as found_by}
 use Rattle.c_runs.specs.Entry.{are_arguments, all_lead_well}
 use Rattle.c_runs.specs.Run as spelled
-use Rattle.core_runs.specs.Run.{CoreWorld, Ending, goes_on, exits, returns, stopped, begun}
-use Rattle.core_checks.specs.Tree.{Steps}
-use Rattle.core_checks.specs.Run as run
+use Rattle.c_runs.specs.CoreRun.{CoreWorld, Ending, goes_on, exits, returns, stopped, begun}
+use Rattle.c_runs.specs.Tree.{Steps}
+use Rattle.c_runs.specs.CheckedRun as run
 use Rattle.plain_runs.specs.Fitting.{IsGood}
 use Rattle.plain_runs.specs.Kept.{AllBelow, some_sets}
 use Rattle.plain_runs.proofs.Sets.{entry_below}
-use Rattle.memory_changes.proofs.Tables.{ended_all}
+use Rattle.typed_memories.proofs.Tables.{ended_all}
 use Rattle.run_blocks.proofs.Standing.{still_same, still_then}
 use Rattle.run_blocks.proofs.Good.{ends_are_good}
 use Rattle.program_steps.specs.Temporaries.{no_temporaries, all_live}

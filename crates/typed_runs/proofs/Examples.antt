@@ -8,7 +8,7 @@ use Rattle.wp_base.specs.Blocks.{cells_of}
 use Rattle.typed_prog.specs.Tree as tree
 use Rattle.c_runs.specs.Program.{Variable, Function}
 use Rattle.c_runs.specs.Objects.{is_plain_in}
-use Rattle.core_checks.specs.Tree.{Steps}
+use Rattle.c_runs.specs.Tree.{Steps}
 use Rattle.plain_runs.specs.Kept.{some_sets}
 use Rattle.typed_memories.proofs.Tests.{on_test}
 use Rattle.typed_runs.specs.Fitting.{kind_of, to_cell, by_place, FitsFunction}

@@ -7,19 +7,19 @@ use Rattle.wp_base.specs.declared.kinds.CellKind.{CellKind}
 use Rattle.wp_base.specs.declared.kinds.CellKind.TheVariants as cell
 use Rattle.wp_base.specs.Blocks.{Table, count, block_cells, has_cell, is_cell}
 use Rattle.c_kinds.proofs.Converting.{test_le, le_test}
-use Rattle.acsl_truth.specs.States.{number}
-use Rattle.acsl_truth.specs.Allowed.{lies_in}
+use Rattle.c_runs.specs.TruthStates.{number}
+use Rattle.c_runs.specs.TruthAllowed.{lies_in}
 use Rattle.c_runs.specs.Program.{Facts}
 use Rattle.c_runs.specs.States.{Local, Memory, Granted}
 use Rattle.c_runs.specs.Claims.{Stop, lets_cell, may_change, may_change_local, of_caller}
 use Rattle.c_runs.specs.Scopes.{ended_since}
-use Rattle.core_runs.specs.Run.{CoreWorld, Ending, goes_on, exits, returns, stopped, then_do, unless, block_end}
+use Rattle.c_runs.specs.CoreRun.{CoreWorld, Ending, goes_on, exits, returns, stopped, then_do, unless, block_end}
 use Rattle.goal_segments.specs.Segments.{SameBlocks}
 use Rattle.plain_runs.proofs.Sets.{all_behind}
 use Rattle.typed_memories.proofs.Tests.{chosen}
-use Rattle.memory_changes.specs.Changes.{StillThere}
-use Rattle.memory_changes.proofs.Tables.{cell_below, grown_same}
-use Rattle.memory_changes.proofs.Making.{hidden_before}
+use Rattle.typed_memories.specs.Changes.{StillThere}
+use Rattle.typed_memories.proofs.Tables.{cell_below, grown_same}
+use Rattle.typed_memories.proofs.Making.{hidden_before}
 use Rattle.program_steps.specs.Temporaries.{Temporaries}
 use Rattle.typed_runs.specs.Fitting.{Shape, InScope}
 use Rattle.typed_runs.specs.Kept.{Holds, AllCounted, NewHomes, KeptMemory, Kept, LeavesMemory, Ends}

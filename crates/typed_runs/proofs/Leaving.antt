@@ -4,20 +4,20 @@ use Rattle.std.specs.Prelude.{◌==◌, int_le}
 use Rattle.std.proofs.lemmas.Bool.{false≢true}
 use Rattle.wp_base.specs.declared.kinds.CellKind.{CellKind}
 use Rattle.wp_base.specs.Blocks.{count, grow}
-use Rattle.acsl_truth.specs.States.{Value}
+use Rattle.c_runs.specs.TruthStates.{Value}
 use Rattle.c_runs.specs.Program.{Variable, Facts}
 use Rattle.c_runs.specs.States.{Local, plain, home, unset, Memory, World, Granted, with_local}
 use Rattle.c_runs.specs.Claims.{may_change_local}
 use Rattle.c_runs.specs.Scopes.{is_content, without_locals}
-use Rattle.core_runs.specs.Run.{CoreWorld, Ending, goes_on, exits, returns, stopped, scope_left, scope_end}
-use Rattle.rte_checks.specs.Tests.{is_set_by}
+use Rattle.c_runs.specs.CoreRun.{CoreWorld, Ending, goes_on, exits, returns, stopped, scope_left, scope_end}
+use Rattle.c_runs.specs.Tests.{is_set_by}
 use Rattle.goal_segments.specs.Told.{with_name, with_names}
 use Rattle.plain_runs.specs.Fitting.{IsGood}
 use Rattle.plain_runs.proofs.Sets.{high_may}
 use Rattle.plain_runs.specs.Kept.{AllBelow}
 use Rattle.typed_memories.proofs.Tests.{on_test, chosen, unchosen, not_both, neither, or_left}
-use Rattle.memory_changes.specs.Changes.{StillThere}
-use Rattle.memory_changes.proofs.Tables.{below_more, grown_block, ended_all}
+use Rattle.typed_memories.specs.Changes.{StillThere}
+use Rattle.typed_memories.proofs.Tables.{below_more, grown_block, ended_all}
 use Rattle.run_blocks.proofs.Standing.{still_same, still_then}
 use Rattle.run_blocks.proofs.Good.{ends_are_good}
 use Rattle.program_steps.specs.Temporaries.{Temporaries, out_at}

@@ -3,9 +3,9 @@ use Rattle.std.proofs.Common.{ℕ, zero, suc, refl}
 use Rattle.c_runs.specs.Program.{Facts, Program}
 use Rattle.c_runs.specs.States.{Granted}
 use Rattle.c_runs.specs.Claims.{spent}
-use Rattle.core_runs.specs.Run.{CoreWorld, Ending, goes_on, exits, returns, stopped}
-use Rattle.core_checks.specs.Tree.{Steps}
-use Rattle.core_checks.specs.Run as run
+use Rattle.c_runs.specs.CoreRun.{CoreWorld, Ending, goes_on, exits, returns, stopped}
+use Rattle.c_runs.specs.Tree.{Steps}
+use Rattle.c_runs.specs.CheckedRun as run
 use Rattle.goal_segments.specs.Told.{is_param}
 use Rattle.plain_runs.specs.Kept.{some_sets, some_temps}
 use Rattle.program_steps.specs.Temporaries.{Temporaries, no_temporaries, all_live}

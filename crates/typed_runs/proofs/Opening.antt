@@ -9,19 +9,19 @@ use Rattle.wp_base.specs.declared.kinds.CellKind.{CellKind}
 use Rattle.wp_base.specs.declared.kinds.CellKind.TheVariants as cell
 use Rattle.wp_base.specs.Blocks.{Table, count, cells_of, block_at, block_of, alloc}
 use Rattle.wp_base.specs.declared.kinds.Layout.{Layout}
-use Rattle.acsl_truth.specs.States.{Value, number, pointer, addresses, region, nothing_of}
+use Rattle.c_runs.specs.TruthStates.{Value, number, pointer, addresses, region, nothing_of}
 use Rattle.c_runs.specs.Program.{Variable, Facts}
 use Rattle.c_runs.specs.States.{Local, plain, home, at, World, with_local, with_memory, stored_in}
 use Rattle.c_runs.specs.Scopes.{scalar_of, is_content, next_content, others, filled, cleared, with_block, plain_made, block_made, variable_made, entered}
-use Rattle.core_runs.specs.Run.{CoreWorld, in_world}
+use Rattle.c_runs.specs.CoreRun.{CoreWorld, in_world}
 use Rattle.goal_segments.specs.Segments.{IsAny, Opened, all_opened, unknown, with_value, not_set, with_cells}
 use Rattle.goal_segments.specs.Told.{with_name, with_names}
 use Rattle.plain_runs.specs.Fitting.{IsGood}
 use Rattle.typed_memories.proofs.Tests.{on_test, chosen, unchosen, not_both, neither, or_left}
 use Rattle.typed_memories.proofs.Formed.{nothing_in_range}
-use Rattle.memory_changes.specs.Changes.{StillThere}
-use Rattle.memory_changes.proofs.Tables.{lt_test, below_more, not_count, new_block, count_alloc}
-use Rattle.memory_changes.proofs.Filling.{made_blocks_hold_contents}
+use Rattle.typed_memories.specs.Changes.{StillThere}
+use Rattle.typed_memories.proofs.Tables.{lt_test, below_more, not_count, new_block, count_alloc}
+use Rattle.typed_memories.proofs.Filling.{made_blocks_hold_contents}
 use Rattle.run_blocks.specs.Ends.{is_short}
 use Rattle.run_blocks.proofs.Standing.{still, still_then, block_still}
 use Rattle.run_blocks.proofs.Good.{content_more, openings_are_good}

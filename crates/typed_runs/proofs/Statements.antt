@@ -10,20 +10,20 @@ use Rattle.wp_base.specs.Blocks.{count}
 use Rattle.typed_prog.specs.declared.types.CoreType.{CoreType}
 use Rattle.typed_prog.specs.declared.operators.Path.{Path}
 use Rattle.typed_prog.specs.Tree as tree
-use Rattle.acsl_truth.specs.States.{Value}
-use Rattle.acsl_truth.specs.Truth.{value_at}
+use Rattle.c_runs.specs.TruthStates.{Value}
+use Rattle.c_runs.specs.Truth.{value_at}
 use Rattle.c_runs.specs.Program.{Variable, Facts, Loop, Function, Program}
 use Rattle.c_runs.specs.States.{World, Here, Granted, is_nonzero, seen}
 use Rattle.c_runs.specs.Claims as claims
 use Rattle.c_runs.specs.Claims.{unless_true, in_body, in_loop, at_head, measure_of, granted_by}
 use Rattle.c_runs.specs.Scopes.{is_content, entered}
 use Rattle.c_runs.specs.Calls.{Eval, gives, stops, nought}
-use Rattle.core_runs.specs.Run.{CoreWorld, Ending, with_eval, in_world, then_do, one_turn}
-use Rattle.rte_checks.specs.Checks.{Check}
-use Rattle.rte_checks.specs.Tests.{totals, is_set_by}
-use Rattle.core_checks.specs.Tree.{Goal, Step, set, store, start, call, branch, repeat, around, exit, give, claim, scope, Steps, end, then_}
-use Rattle.core_checks.specs.Run as run
-use Rattle.core_checks.specs.Run.{is_met_in, place_test, way_values, stored_value}
+use Rattle.c_runs.specs.CoreRun.{CoreWorld, Ending, with_eval, in_world, then_do, one_turn}
+use Rattle.c_runs.specs.Checks.{Check}
+use Rattle.c_runs.specs.Tests.{totals, is_set_by}
+use Rattle.c_runs.specs.Tree.{Goal, Step, set, store, start, call, branch, repeat, around, exit, give, claim, scope, Steps, end, then_}
+use Rattle.c_runs.specs.CheckedRun as run
+use Rattle.c_runs.specs.CheckedRun.{is_met_in, place_test, way_values, stored_value}
 use Rattle.c_runs.specs.Objects.{cell_of}
 use Rattle.goal_segments.specs.Told.{with_names}
 use Rattle.plain_runs.specs.Kept.{AllBelow, is_local, goal_sets, sets, some_sets, goal_temp, temps, some_temps}

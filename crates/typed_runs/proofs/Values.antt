@@ -14,18 +14,18 @@ use Rattle.typed_prog.specs.declared.operators.Path.{Path}
 use Rattle.typed_prog.specs.declared.operators.Variable as code
 use Rattle.typed_prog.specs.declared.operators.Variable.TheVariants as variable
 use Rattle.typed_prog.specs.Tree as tree
-use Rattle.acsl_truth.specs.States.{Value, number, pointer, addresses, region, block_of, offset_of}
-use Rattle.acsl_truth.specs.Truth.{value_at}
+use Rattle.c_runs.specs.TruthStates.{Value, number, pointer, addresses, region, block_of, offset_of}
+use Rattle.c_runs.specs.Truth.{value_at}
 use Rattle.c_runs.specs.Program.{Variable, Facts}
 use Rattle.c_runs.specs.States.{held_by, plain_globals, global_home, home_of, block_of_local}
 use Rattle.c_runs.specs.Operators.{index, access}
 use Rattle.c_runs.specs.Objects.{plain_root, cell_of, address, is_pointed, may_write}
 use Rattle.c_runs.specs.Scopes.{scalar_of, is_content}
 use Rattle.c_runs.specs.Entry.{is_value, leads_well}
-use Rattle.core_runs.specs.Run.{CoreWorld}
-use Rattle.rte_checks.specs.Checks.{Check, here, one_if, all_checks, index_checks}
-use Rattle.rte_checks.specs.Tests.{total, totals, is_met, step_test}
-use Rattle.core_checks.specs.Run.{is_met_in, place_test, way_test_by}
+use Rattle.c_runs.specs.CoreRun.{CoreWorld}
+use Rattle.c_runs.specs.Checks.{Check, here, one_if, all_checks, index_checks}
+use Rattle.c_runs.specs.Tests.{total, totals, is_met, step_test}
+use Rattle.c_runs.specs.CheckedRun.{is_met_in, place_test, way_test_by}
 use Rattle.typed_memories.proofs.Tests.{chosen, unchosen, both_so}
 use Rattle.typed_memories.proofs.CellKinds.{kind_same}
 use Rattle.run_blocks.proofs.Good.{good_contents}

@@ -2,11 +2,11 @@
 use Rattle.std.proofs.Common.{Option, Some, None}
 use Rattle.wp_base.specs.declared.kinds.CellKind.{CellKind}
 use Rattle.wp_base.specs.Blocks.{Table, count}
-use Rattle.acsl_truth.specs.States.{Value}
+use Rattle.c_runs.specs.TruthStates.{Value}
 use Rattle.c_runs.specs.Program.{Facts}
 use Rattle.c_runs.specs.Calls.{Eval, gives, stops}
 use Rattle.c_runs.specs.Run as spelled
-use Rattle.core_checks.specs.Run as run
+use Rattle.c_runs.specs.CheckedRun as run
 use Rattle.goal_segments.specs.Segments as segments
 use Rattle.typed_runs.specs.Kept.{IsResult}
 use Rattle.typed_runs.specs.Laws.{LeavesWell, RunsLeaveWell}

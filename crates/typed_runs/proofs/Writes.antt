@@ -10,17 +10,17 @@ use Rattle.wp_base.specs.Blocks.{Table, count, block_at, block_cells, has_cell, 
 use Rattle.typed_prog.specs.declared.types.CoreType.{CoreType}
 use Rattle.typed_prog.specs.declared.operators.Path.{Path}
 use Rattle.typed_prog.specs.Tree as tree
-use Rattle.acsl_truth.specs.States.{Value, pointer, block_of, offset_of}
+use Rattle.c_runs.specs.TruthStates.{Value, pointer, block_of, offset_of}
 use Rattle.c_runs.specs.Program.{Variable, Facts}
 use Rattle.c_runs.specs.States.{plain, Memory, World, Here, Granted, with_local, with_memory, stored_in, global_home}
 use Rattle.c_runs.specs.Objects.{plain_root, is_plain_in, cell_of, address, along, start}
 use Rattle.c_runs.specs.Claims.{may_change, may_change_local}
 use Rattle.c_runs.specs.Scopes.{is_content}
 use Rattle.c_runs.specs.Effects.{granted, kind_there, cell_written, wrote_act, initial_in, initial_by, initial_act}
-use Rattle.core_runs.specs.Run.{CoreWorld, Ending, goes_on, in_world, with_temp, with_eval}
-use Rattle.rte_checks.specs.Tests.{is_set_by}
-use Rattle.core_checks.specs.Run as run
-use Rattle.core_checks.specs.Run.{place_test}
+use Rattle.c_runs.specs.CoreRun.{CoreWorld, Ending, goes_on, in_world, with_temp, with_eval}
+use Rattle.c_runs.specs.Tests.{is_set_by}
+use Rattle.c_runs.specs.CheckedRun as run
+use Rattle.c_runs.specs.CheckedRun.{place_test}
 use Rattle.goal_segments.specs.Told.{may_change_global}
 use Rattle.plain_runs.specs.Fitting.{IsGood}
 use Rattle.plain_runs.specs.Kept.{AllBelow, is_local}

@@ -12,8 +12,8 @@ use Rattle.typed_prog.specs.declared.operators.Variable.TheVariants as variable
 use Rattle.typed_prog.specs.Types.{of_kind, pointer_to}
 use Rattle.typed_prog.specs.Tree as tree
 use Rattle.c_runs.specs.Program.{Variable, Loop, Function, Facts, Program}
-use Rattle.rte_checks.specs.Checks.{checks_of, all_checks}
-use Rattle.core_checks.specs.Tree.{place, Step, store, start, call, branch, repeat, around, exit, give, scope, Steps, end, then_}
+use Rattle.c_runs.specs.Checks.{checks_of, all_checks}
+use Rattle.c_runs.specs.Tree.{place, Step, store, start, call, branch, repeat, around, exit, give, scope, Steps, end, then_}
 use Rattle.typed_runs.specs.Fitting.{Shape, place_checks, FitsProgram}
 
 -- int f(int *p) {

@@ -15,8 +15,8 @@ use Rattle.c_runs.specs.Program.{Variable, Loop, Function, Facts, Program}
 use Rattle.c_runs.specs.Scopes.{scalar_of}
 use Rattle.c_runs.specs.Operators.{access}
 use Rattle.c_runs.specs.Objects.{plain_root, cell_of, is_pointed}
-use Rattle.rte_checks.specs.Checks.{Check, checks_of, all_checks, index_checks, one_if}
-use Rattle.core_checks.specs.Tree.{Goal, nowhere, temporary, place, variable as to_variable, Step, set, store, start, call, branch, repeat, around, exit, give, claim, scope, Steps, end, then_}
+use Rattle.c_runs.specs.Checks.{Check, checks_of, all_checks, index_checks, one_if}
+use Rattle.c_runs.specs.Tree.{Goal, nowhere, temporary, place, variable as to_variable, Step, set, store, start, call, branch, repeat, around, exit, give, claim, scope, Steps, end, then_}
 use Rattle.goal_segments.specs.Told.{with_name, with_names, is_param}
 use Rattle.plain_runs.specs.Kept.{some_sets, some_temps}
 use Rattle.run_blocks.specs.Ends.{is_short}

@@ -2,14 +2,14 @@
 use Rattle.std.specs.Prelude.{◌≡◌, ◌≤◌, ℕ, Bool, true, false, ℤ, negsuc, int_le, int_lt, List, [], ◌∷◌, Option, Some, None, slice_get}
 use Rattle.wp_base.specs.declared.kinds.CellKind.{CellKind}
 use Rattle.wp_base.specs.Blocks.{Table, count, block_at, block_of, is_cell}
-use Rattle.acsl_truth.specs.States.{Value}
+use Rattle.c_runs.specs.TruthStates.{Value}
 use Rattle.c_runs.specs.Program.{Variable, Facts}
 use Rattle.c_runs.specs.States.{Local, plain, home, unset, Memory, Granted}
 use Rattle.c_runs.specs.Claims.{may_change, may_change_local}
 use Rattle.c_runs.specs.Scopes.{is_content}
 use Rattle.c_runs.specs.Calls.{nought}
-use Rattle.core_runs.specs.Run.{CoreWorld, Ending, goes_on, exits, returns, stopped}
-use Rattle.rte_checks.specs.Tests.{is_set_by}
+use Rattle.c_runs.specs.CoreRun.{CoreWorld, Ending, goes_on, exits, returns, stopped}
+use Rattle.c_runs.specs.Tests.{is_set_by}
 use Rattle.goal_segments.specs.Segments.{SameBlocks}
 use Rattle.goal_segments.specs.Told.{may_change_global}
 use Rattle.plain_runs.specs.Fitting.{IsGood}

@@ -21,7 +21,7 @@ use Rattle.c_runs.specs.Program.{Variable}
 use Rattle.c_runs.specs.Operators.{Undefined, is_order}
 use Rattle.c_runs.specs.Objects.{plain_root, has_value, is_pointed}
 use Rattle.c_runs.specs.Values.{kind_at}
-use Rattle.rte_checks.specs.Checks.{Check, is_empty, one_if, index_checks, read_checks_by, arithmetic_checks, op_checks, constant_of, second_constant, may_be_zero, may_be_minus_one}
+use Rattle.c_runs.specs.Checks.{Check, is_empty, one_if, index_checks, read_checks_by, arithmetic_checks, op_checks, constant_of, second_constant, may_be_zero, may_be_minus_one}
 use Rattle.value_facts.specs.MayFail.{is_indexed, read_may_fail, address_may_fail, arithmetic_may_fail, op_may_fail}
 
 -- a check is there

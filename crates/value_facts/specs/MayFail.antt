@@ -15,7 +15,7 @@ use Rattle.c_runs.specs.Program.{Variable}
 use Rattle.c_runs.specs.Operators.{is_order}
 use Rattle.c_runs.specs.Objects.{plain_root, has_value, is_pointed, is_sure}
 use Rattle.c_runs.specs.Values.{kind_at}
-use Rattle.rte_checks.specs.Checks.{second_constant, may_be_zero, may_be_minus_one}
+use Rattle.c_runs.specs.Checks.{second_constant, may_be_zero, may_be_minus_one}
 
 -- a declared array is indexed on the way
 abbrev pub is_indexed : List Step → Bool

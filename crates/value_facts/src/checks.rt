@@ -1,7 +1,7 @@
 // Whether the value of an expression of a core program may be undefined.
 ghost use Rattle.std.specs.Prelude.{◌≡◌};
 ghost use Rattle.core_trees.specs.View.{view_variables};
-ghost use Rattle.rte_checks.specs.Checks as spec;
+ghost use Rattle.c_runs.specs.Checks as spec;
 ghost use Rattle.typed_prog.specs.Tree.{values_of};
 ghost use Rattle.typed_prog.specs.View.{view_value, view_values};
 

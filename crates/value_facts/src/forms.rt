@@ -1,6 +1,6 @@
 // What an expression is, at its head.
 ghost use Rattle.std.specs.Prelude.{◌≡◌};
-ghost use Rattle.normal_stmts.specs.Normal as spec;
+ghost use Rattle.c_runs.specs.Normal as spec;
 ghost use Rattle.typed_prog.specs.View.{view_value};
 
 use typed_prog::{Value, ValueNode};

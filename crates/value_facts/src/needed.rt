@@ -1,6 +1,6 @@
 // Whether statements come of an expression whose effect is done.
 ghost use Rattle.std.specs.Prelude.{◌≡◌, ◌≤◌, drop, length};
-ghost use Rattle.normal_stmts.specs.Plans as spec;
+ghost use Rattle.c_runs.specs.Plans as spec;
 ghost use Rattle.typed_prog.specs.Tree.{values_of};
 ghost use Rattle.typed_prog.specs.View.{view_value, view_values};
 

@@ -5,7 +5,7 @@ ghost use Rattle.c_runs.specs.Objects as objects;
 ghost use Rattle.c_runs.specs.Operators.{is_order as is_order_of};
 ghost use Rattle.c_runs.specs.Values.{kind_at};
 ghost use Rattle.core_trees.specs.View.{view_variables};
-ghost use Rattle.rte_checks.specs.Checks as checks;
+ghost use Rattle.c_runs.specs.Checks as checks;
 ghost use Rattle.typed_prog.specs.Tree.{values_of};
 ghost use Rattle.typed_prog.specs.View.{view_value_node, view_values};
 ghost use Rattle.value_facts.specs.MayFail as spec;

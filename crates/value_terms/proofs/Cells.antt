@@ -21,16 +21,16 @@ use Rattle.c_runs.proofs.Numbers.{zero_when, signed_ends, in_between}
 use Rattle.c_kinds.proofs.Converting.{le_test, test_le, both_true}
 use Rattle.typed_prog.specs.declared.operators.Step.{Step}
 use Rattle.typed_prog.specs.declared.operators.Step.TheVariants as step
-use Rattle.acsl_truth.specs.States.{Value, number, pointer, addresses, region, number_of, offset_of, of_kind}
-use Rattle.acsl_truth.specs.States as value
-use Rattle.acsl_truth.specs.Truth.{value_at}
+use Rattle.c_runs.specs.TruthStates.{Value, number, pointer, addresses, region, number_of, offset_of, of_kind}
+use Rattle.c_runs.specs.TruthStates as value
+use Rattle.c_runs.specs.Truth.{value_at}
 use Rattle.c_runs.specs.Program.{Facts}
 use Rattle.c_runs.specs.Operators.{index, may_point, may_compare}
 use Rattle.c_runs.specs.Objects.{along, is_index}
 use Rattle.c_runs.specs.Scopes.{is_content}
-use Rattle.rte_checks.specs.Checks.{Check, index_checks}
-use Rattle.rte_checks.specs.Tests.{step_test}
-use Rattle.rte_checks.proofs.Operators.{at_step}
+use Rattle.c_runs.specs.Checks.{Check, index_checks}
+use Rattle.c_runs.specs.Tests.{step_test}
+use Rattle.c_runs.proofs.Operators.{at_step}
 use Rattle.value_terms.specs.Typed.{ReachesFrom}
 use Rattle.value_terms.proofs.Listing.{all}
 

@@ -14,12 +14,12 @@ use Rattle.qed_terms.specs.Meaning as m
 use Rattle.qed_terms.specs.Memory.{Entry, Memory, is_at, load}
 use Rattle.qed_terms.specs.Names.{is_name}
 use Rattle.qed_terms.specs.Tree.{Tree, node, stop, num}
-use Rattle.acsl_truth.specs.States.{Value, number, pointer, addresses, region, number_of, block_of, offset_of}
+use Rattle.c_runs.specs.TruthStates.{Value, number, pointer, addresses, region, number_of, block_of, offset_of}
 use Rattle.c_runs.specs.Program.{Facts}
 use Rattle.c_runs.specs.States.{World, held_by, global_home, block_of_local}
 use Rattle.c_runs.specs.Scopes.{is_content}
 use Rattle.c_runs.specs.Values.{Temps}
-use Rattle.rte_checks.specs.Tests.{is_set_by}
+use Rattle.c_runs.specs.Tests.{is_set_by}
 use Rattle.value_terms.specs.Readings.{Term, as_number, as_pointer, Reading, term_fits}
 use Rattle.value_terms.specs.Worlds.{Means, flag_of}
 use Rattle.value_terms.specs.Laws.{WorldsHaveReadings}

@@ -26,7 +26,7 @@ use Rattle.c_runs.specs.Program.{Facts}
 use Rattle.c_runs.specs.Operators.{Undefined, overflow, divzero, access}
 use Rattle.c_runs.specs.Objects.{plain_root, cell_of, is_pointed}
 use Rattle.c_runs.specs.Values.{kind_at}
-use Rattle.rte_checks.specs.Checks.{Check, in_operand, later, second_constant, may_be_zero, may_be_minus_one}
+use Rattle.c_runs.specs.Checks.{Check, in_operand, later, second_constant, may_be_zero, may_be_minus_one}
 use Rattle.value_terms.specs.Readings.{Term, number_term, term_at, Reading, plain_global, term_fits, IsWellFormed}
 use Rattle.value_terms.specs.Terms.{of_one, exact_term, address_term, cell_term, moved_terms, op_term, term_of, terms_of}
 use Rattle.value_terms.specs.Words.{Item, asked, known, formula_of, asked_if, with_check, held_term, range_facts, is_below_term, quotient_fits_term, shift_fits_term, division_items, arithmetic_items, live_term, len_term, pointing_term, comparing_term, access_term, index_items, cell_facts, facts_by, read_items, op_items, node_word, word_of, words}

@@ -20,7 +20,7 @@ use Rattle.typed_prog.specs.declared.operators.Root.TheVariants as root
 use Rattle.typed_prog.specs.declared.operators.Variable.TheVariants as variable
 use Rattle.typed_prog.specs.Types.{is_pointer}
 use Rattle.typed_prog.specs.Tree as t
-use Rattle.acsl_truth.specs.States.{Value, number, pointer, addresses, region, number_of}
+use Rattle.c_runs.specs.TruthStates.{Value, number, pointer, addresses, region, number_of}
 use Rattle.c_runs.specs.Program.{Facts, Variable}
 use Rattle.c_runs.specs.States.{World}
 use Rattle.c_runs.specs.Operators.{Undefined, init, Val, is, truth_number, arithmetic, computed, complement}
@@ -29,9 +29,9 @@ use Rattle.c_runs.specs.Scopes.{is_content}
 use Rattle.c_runs.specs.Values.{kind_at, Temps}
 use Rattle.c_runs.specs.Laws.{on_constants, may_be_second, number_in}
 use Rattle.c_runs.proofs.Constants.{operators_are_those_of_constants}
-use Rattle.rte_checks.specs.Checks.{Check, here, one_if, checks_of, all_checks, in_operand, later}
-use Rattle.rte_checks.specs.Laws.{settle}
-use Rattle.rte_checks.proofs.Checking.{met_in}
+use Rattle.c_runs.specs.Checks.{Check, here, one_if, checks_of, all_checks, in_operand, later}
+use Rattle.c_runs.specs.CheckLaws.{settle}
+use Rattle.c_runs.proofs.Checking.{met_in}
 use Rattle.value_terms.specs.Readings.{plain_global}
 use Rattle.value_terms.specs.Typed.{given_by, kind_given, second_is}
 use Rattle.value_terms.proofs.Listing.{all, all_parts, all_same, deep}

@@ -22,11 +22,11 @@ use Rattle.qed_terms.specs.Meaning as m
 use Rattle.qed_terms.specs.Meaning.{value}
 use Rattle.qed_terms.specs.Operators.{is_zero, is_equal}
 use Rattle.qed_terms.specs.Tree.{Tree}
-use Rattle.acsl_truth.specs.Truth.{computed, compare}
+use Rattle.c_runs.specs.Truth.{computed, compare}
 use Rattle.c_runs.specs.Operators.{Val, is, wrong, Undefined, where_true, within, fits, may_divide, may_shift, may_shift_left, arithmetic}
 use Rattle.c_runs.specs.Operators as run
 use Rattle.c_runs.specs.Laws.{may_be_second}
-use Rattle.acsl_truth.specs.States.{number}
+use Rattle.c_runs.specs.TruthStates.{number}
 use Rattle.value_terms.specs.Terms.{of_one, within_term, exact_term, arithmetic_term, comparison, narrowed, converted_term}
 use Rattle.value_terms.specs.Words.{held_term, is_below_term, quotient_fits_term, shift_fits_term}
 use Rattle.value_terms.proofs.Bitwise.{ands, ors, xors, reduced_is, complement_is}

@@ -21,7 +21,7 @@ use Rattle.qed_terms.specs.Tree.{Tree}
 use Rattle.c_runs.specs.Program.{Facts, Variable}
 use Rattle.c_runs.specs.Operators.{Undefined, overflow, divzero, shift, access, index}
 use Rattle.c_runs.specs.Objects.{plain_root, is_pointed, cell_of}
-use Rattle.rte_checks.specs.Checks.{Check, here, one_if, in_operand, later, index_checks, read_checks_by, division_checks, arithmetic_checks, may_be_zero, may_be_minus_one, op_checks, node_checks, checks_of, all_checks}
+use Rattle.c_runs.specs.Checks.{Check, here, one_if, in_operand, later, index_checks, read_checks_by, division_checks, arithmetic_checks, may_be_zero, may_be_minus_one, op_checks, node_checks, checks_of, all_checks}
 use Rattle.value_terms.specs.Readings.{Term, Reading, plain_global}
 use Rattle.value_terms.specs.Terms.{terms_of, address_term}
 use Rattle.value_terms.specs.Words.{Item, asked, known, checks_in, asked_if, with_check, division_items, arithmetic_items, index_items, cell_facts, facts_by, read_items, access_term, op_items, node_word, word_of, words}

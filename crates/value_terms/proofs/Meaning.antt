@@ -6,14 +6,14 @@ use Rattle.typed_prog.specs.declared.operators.Op.{Op}
 use Rattle.typed_prog.specs.Tree as t
 use Rattle.qed_terms.specs.Meaning as m
 use Rattle.qed_terms.specs.Tree.{Tree}
-use Rattle.acsl_truth.specs.States.{Value}
-use Rattle.acsl_truth.specs.Truth.{value_at}
+use Rattle.c_runs.specs.TruthStates.{Value}
+use Rattle.c_runs.specs.Truth.{value_at}
 use Rattle.c_runs.specs.Program.{Facts, Variable}
 use Rattle.c_runs.specs.States.{World}
 use Rattle.c_runs.specs.Values.{Temps}
-use Rattle.rte_checks.specs.Checks.{Check, in_operand, later, op_checks, node_checks, checks_of, all_checks}
-use Rattle.rte_checks.specs.Tests.{total_node, total, totals, is_met}
-use Rattle.rte_checks.proofs.Checking.{met_in}
+use Rattle.c_runs.specs.Checks.{Check, in_operand, later, op_checks, node_checks, checks_of, all_checks}
+use Rattle.c_runs.specs.Tests.{total_node, total, totals, is_met}
+use Rattle.c_runs.proofs.Checking.{met_in}
 use Rattle.value_terms.specs.Readings.{Term, term_at, Reading}
 use Rattle.value_terms.specs.Terms.{node_term, term_of, terms_of}
 use Rattle.value_terms.specs.Words.{with_check, node_word, word_of, words}

@@ -12,17 +12,17 @@ use Rattle.typed_prog.specs.Tree as t
 use Rattle.qed_terms.specs.Meaning as m
 use Rattle.qed_terms.specs.Operators.{is_equal}
 use Rattle.qed_terms.specs.Tree.{Tree}
-use Rattle.acsl_truth.specs.States.{Value, block_of, offset_of}
-use Rattle.acsl_truth.specs.Truth.{value_at}
+use Rattle.c_runs.specs.TruthStates.{Value, block_of, offset_of}
+use Rattle.c_runs.specs.Truth.{value_at}
 use Rattle.c_runs.specs.Program.{Facts, Variable}
 use Rattle.c_runs.specs.States.{World}
 use Rattle.c_runs.specs.Operators.{Undefined, init, access, index}
 use Rattle.c_runs.specs.Objects.{plain_root, is_pointed, cell_of, start, along, address, content}
 use Rattle.c_runs.specs.Objects as objects
 use Rattle.c_runs.specs.Values.{Temps}
-use Rattle.rte_checks.specs.Checks.{Check, here, one_if, index_checks, read_checks_by}
-use Rattle.rte_checks.specs.Tests.{total_read_by, totals, is_set_by, step_test, read_test_by}
-use Rattle.rte_checks.proofs.Operators.{at_step}
+use Rattle.c_runs.specs.Checks.{Check, here, one_if, index_checks, read_checks_by}
+use Rattle.c_runs.specs.Tests.{total_read_by, totals, is_set_by, step_test, read_test_by}
+use Rattle.c_runs.proofs.Operators.{at_step}
 use Rattle.value_terms.specs.Readings.{plain_global, Term, term_at, Reading}
 use Rattle.value_terms.specs.Terms.{address_term, along_term, start_term, cell_term, read_term, terms_of}
 use Rattle.value_terms.specs.Words.{index_items, access_term, facts_by, asked_if, read_items}

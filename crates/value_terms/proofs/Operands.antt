@@ -3,7 +3,7 @@ use Rattle.std.proofs.Common.{◌≡◌, Bool, true, false, not, ◌&&◌, pos, 
 use Rattle.std.specs.Prelude.{if◌then◌else◌}
 use Rattle.qed_terms.specs.Meaning as m
 use Rattle.qed_terms.specs.Operators.{is_zero, is_equal}
-use Rattle.acsl_truth.specs.States.{Value, number_of, block_of, offset_of}
+use Rattle.c_runs.specs.TruthStates.{Value, number_of, block_of, offset_of}
 use Rattle.c_runs.specs.States.{is_nonzero}
 use Rattle.c_runs.specs.Operators.{truth_number}
 use Rattle.value_terms.specs.Readings.{Term, as_number, as_test, as_pointer, number_term, block_term, offset_term, condition}

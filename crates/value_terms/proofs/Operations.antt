@@ -12,8 +12,8 @@ use Rattle.typed_prog.specs.Tree as t
 use Rattle.qed_terms.specs.declared.head.TermOp.TheVariants as term
 use Rattle.qed_terms.specs.Meaning as m
 use Rattle.qed_terms.specs.Tree.{Tree}
-use Rattle.acsl_truth.specs.States.{Value, number, pointer, addresses, region, number_of}
-use Rattle.acsl_truth.specs.Truth.{value_at, compare, first}
+use Rattle.c_runs.specs.TruthStates.{Value, number, pointer, addresses, region, number_of}
+use Rattle.c_runs.specs.Truth.{value_at, compare, first}
 use Rattle.c_runs.specs.Program.{Facts, Variable}
 use Rattle.c_runs.specs.States.{World}
 use Rattle.c_runs.specs.Operators.{Undefined, overflow, pointing, comparing, may_compare, is_order, wrong, truth_number, complement, within}
@@ -21,9 +21,9 @@ use Rattle.c_runs.specs.Objects.{plain_root, address}
 use Rattle.c_runs.specs.Scopes.{is_content}
 use Rattle.c_runs.specs.Values.{kind_at, applied, moved_in, converted, Temps}
 use Rattle.c_runs.specs.Laws.{may_be_second}
-use Rattle.rte_checks.specs.Checks.{Check, second_constant, op_checks}
-use Rattle.rte_checks.specs.Tests.{total_applied, totals, arithmetic_test, op_test}
-use Rattle.rte_checks.proofs.Operators.{op_settle, at_step, constant_second}
+use Rattle.c_runs.specs.Checks.{Check, second_constant, op_checks}
+use Rattle.c_runs.specs.Tests.{total_applied, totals, arithmetic_test, op_test}
+use Rattle.c_runs.proofs.Operators.{op_settle, at_step, constant_second}
 use Rattle.value_terms.specs.Readings.{Term, number_term, term_at, Reading}
 use Rattle.value_terms.specs.Terms.{of_one, within_term, converted_term, first_kind, address_term, moved_terms, op_term, terms_of}
 use Rattle.value_terms.specs.Words.{comparing_term, op_items}

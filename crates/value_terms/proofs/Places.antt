@@ -6,15 +6,15 @@ use Rattle.wp_base.specs.Blocks.{is_cell, may_write, block_at}
 use Rattle.typed_prog.specs.declared.types.CoreType.{CoreType}
 use Rattle.typed_prog.specs.declared.operators.Path.{Path}
 use Rattle.qed_terms.specs.Meaning as m
-use Rattle.acsl_truth.specs.States.{Value, block_of, offset_of}
-use Rattle.acsl_truth.specs.Truth.{value_at}
+use Rattle.c_runs.specs.TruthStates.{Value, block_of, offset_of}
+use Rattle.c_runs.specs.Truth.{value_at}
 use Rattle.c_runs.specs.Program.{Facts, Variable}
 use Rattle.c_runs.specs.States.{World}
 use Rattle.c_runs.specs.Operators.{access}
 use Rattle.c_runs.specs.Objects.{cell_of, address, is_pointed}
 use Rattle.c_runs.specs.Values.{Temps}
-use Rattle.rte_checks.specs.Checks.{Check, one_if, index_checks}
-use Rattle.rte_checks.specs.Tests.{step_test}
+use Rattle.c_runs.specs.Checks.{Check, one_if, index_checks}
+use Rattle.c_runs.specs.Tests.{step_test}
 use Rattle.value_terms.specs.Readings.{Term, term_at, Reading}
 use Rattle.value_terms.specs.Terms.{address_term, terms_of}
 use Rattle.value_terms.specs.Words.{checks_in, asked_if, index_items}

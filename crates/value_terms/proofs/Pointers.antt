@@ -23,15 +23,15 @@ use Rattle.qed_terms.specs.Meaning as m
 use Rattle.qed_terms.specs.Memory.{load}
 use Rattle.qed_terms.specs.Operators.{is_equal, quotient}
 use Rattle.qed_terms.specs.Tree.{Tree, num}
-use Rattle.acsl_truth.specs.States.{Value, number, pointer, number_of, block_of, offset_of}
-use Rattle.acsl_truth.specs.Truth.{value_at, moved, moved_by, compare, compare_pointers}
+use Rattle.c_runs.specs.TruthStates.{Value, number, pointer, number_of, block_of, offset_of}
+use Rattle.c_runs.specs.Truth.{value_at, moved, moved_by, compare, compare_pointers}
 use Rattle.c_runs.proofs.Numbers.{one_whole}
 use Rattle.c_runs.specs.Program.{Facts, Variable}
 use Rattle.c_runs.specs.States.{World, home_of}
 use Rattle.c_runs.specs.Operators.{may_point, may_compare, difference}
 use Rattle.c_runs.specs.Objects.{start, along, content}
 use Rattle.c_runs.specs.Values.{Temps, moved_in}
-use Rattle.rte_checks.specs.Checks.{Check}
+use Rattle.c_runs.specs.Checks.{Check}
 use Rattle.value_terms.specs.Readings.{Term, number_term, block_term, offset_term, term_at, Reading}
 use Rattle.value_terms.specs.Terms.{of_two, comparison, scaled, moved_term, field_term, same_pointer_term, pointer_comparison, difference_term, home_term, start_term, along_term, load_term, loaded, moved_terms}
 use Rattle.value_terms.specs.Words.{range_facts, pointing_term, comparing_term, access_term, index_items, cell_facts}

@@ -11,14 +11,14 @@ use Rattle.typed_prog.specs.Tree as t
 use Rattle.qed_terms.specs.Meaning as m
 use Rattle.qed_terms.specs.Operators.{is_zero}
 use Rattle.qed_terms.specs.Tree.{Tree, num, equal, not_of}
-use Rattle.acsl_truth.specs.States.{Value, number}
+use Rattle.c_runs.specs.TruthStates.{Value, number}
 use Rattle.c_runs.specs.Program.{Facts, Variable}
 use Rattle.c_runs.specs.States.{World}
 use Rattle.c_runs.specs.Operators.{Undefined, overflow, divzero, shift, is, arithmetic, computed, fits}
 use Rattle.c_runs.specs.Values.{Temps}
 use Rattle.c_runs.specs.Laws.{may_be_second}
-use Rattle.rte_checks.specs.Checks.{Check, here, may_be_zero, may_be_minus_one}
-use Rattle.rte_checks.specs.Tests.{totals, arithmetic_test}
+use Rattle.c_runs.specs.Checks.{Check, here, may_be_zero, may_be_minus_one}
+use Rattle.c_runs.specs.Tests.{totals, arithmetic_test}
 use Rattle.value_terms.specs.Readings.{Term, Reading}
 use Rattle.value_terms.specs.Terms.{exact_term, arithmetic_term, terms_of}
 use Rattle.value_terms.specs.Words.{asked_if, held_term, division_items, arithmetic_items}

@@ -3,7 +3,7 @@ use Rattle.std.proofs.Common.{◌≡◌, ℕ, Bool, true, false, List, [], ◌�
 use Rattle.std.specs.Prelude.{map, ◌&&◌}
 use Rattle.qed_terms.specs.Tree.{Tree}
 use Rattle.c_runs.specs.Operators.{Undefined}
-use Rattle.rte_checks.specs.Checks.{Check, here}
+use Rattle.c_runs.specs.Checks.{Check, here}
 use Rattle.value_terms.specs.Words.{Item, asked, known, checks_in, asked_if, with_check}
 use Rattle.value_terms.specs.Laws.{Says}
 use Rattle.value_terms.proofs.Listing.{all, Each}

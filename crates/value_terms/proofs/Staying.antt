@@ -20,18 +20,18 @@ use Rattle.typed_prog.specs.declared.operators.Root.{Root}
 use Rattle.typed_prog.specs.declared.operators.Root.TheVariants as root
 use Rattle.typed_prog.specs.Types.{is_pointer}
 use Rattle.typed_prog.specs.Tree as t
-use Rattle.acsl_truth.specs.States.{Value, pointer, null, number_of, block_of, offset_of}
-use Rattle.acsl_truth.specs.Truth.{value_at, first, second, moved_by}
+use Rattle.c_runs.specs.TruthStates.{Value, pointer, null, number_of, block_of, offset_of}
+use Rattle.c_runs.specs.Truth.{value_at, first, second, moved_by}
 use Rattle.c_runs.specs.Program.{Facts, Variable}
 use Rattle.c_runs.specs.States.{World, held_by, global_home, home_of}
 use Rattle.c_runs.specs.Operators.{Undefined, init, access, index, comparing, difference, wrong, negated}
 use Rattle.c_runs.specs.Objects.{plain_root, has_value, has_value_in, is_pointed, start, along, address, content, cell_of}
 use Rattle.c_runs.specs.Values.{kind_at, applied, moved_in, Temps}
 use Rattle.c_runs.proofs.Constants.{operators_are_those_of_constants}
-use Rattle.rte_checks.specs.Checks.{Check, here, one_if, index_checks, read_checks_by, op_checks, node_checks, checks_of, all_checks, in_operand, later}
-use Rattle.rte_checks.specs.Tests.{total_read_by, total_applied, total_node, total, totals, is_set_by, step_test, read_test_by, op_test, is_met}
-use Rattle.rte_checks.proofs.Operators.{op_settle, at_step}
-use Rattle.rte_checks.proofs.Checking.{met_in}
+use Rattle.c_runs.specs.Checks.{Check, here, one_if, index_checks, read_checks_by, op_checks, node_checks, checks_of, all_checks, in_operand, later}
+use Rattle.c_runs.specs.Tests.{total_read_by, total_applied, total_node, total, totals, is_set_by, step_test, read_test_by, op_test, is_met}
+use Rattle.c_runs.proofs.Operators.{op_settle, at_step}
+use Rattle.c_runs.proofs.Checking.{met_in}
 use Rattle.value_terms.specs.Readings.{plain_global}
 use Rattle.value_terms.specs.Typed.{given_by, kind_given, operand_kind, Scope, LocalHas, ObjectIsTyped, CellIsTyped, ReadIsTyped, StartIsTyped, OpIsTyped, NodeIsTyped, IsTyped, AreTyped}
 use Rattle.value_terms.specs.Worlds as fits

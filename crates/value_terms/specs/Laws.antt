@@ -8,8 +8,8 @@ use Rattle.qed_terms.specs.WellFormed.{fits, formula}
 use Rattle.c_runs.specs.Program.{Facts, Variable}
 use Rattle.c_runs.specs.States.{World, is_nonzero}
 use Rattle.c_runs.specs.Values.{Temps}
-use Rattle.rte_checks.specs.Checks.{Check, checks_of}
-use Rattle.rte_checks.specs.Tests.{total, is_met}
+use Rattle.c_runs.specs.Checks.{Check, checks_of}
+use Rattle.c_runs.specs.Tests.{total, is_met}
 use Rattle.value_terms.specs.Readings as readings
 use Rattle.value_terms.specs.Readings.{condition, Reading, term_fits}
 use Rattle.value_terms.specs.Terms.{term_of}

@@ -11,15 +11,15 @@ use Rattle.qed_terms.specs.declared.head.FormOp.TheVariants as form
 use Rattle.qed_terms.specs.Meaning as m
 use Rattle.qed_terms.specs.Tree.{Tree, node, three}
 use Rattle.qed_terms.specs.WellFormed.{fits, formula}
-use Rattle.acsl_truth.specs.States.{Value, block_of, offset_of}
-use Rattle.acsl_truth.specs.Truth.{value_at}
+use Rattle.c_runs.specs.TruthStates.{Value, block_of, offset_of}
+use Rattle.c_runs.specs.Truth.{value_at}
 use Rattle.c_runs.specs.Program.{Facts, Variable}
 use Rattle.c_runs.specs.States.{World}
 use Rattle.c_runs.specs.Operators.{index, access}
 use Rattle.c_runs.specs.Objects.{cell_of, address, is_pointed, may_write}
 use Rattle.c_runs.specs.Values.{Temps}
-use Rattle.rte_checks.specs.Checks.{Check, here, one_if, index_checks, all_checks}
-use Rattle.rte_checks.specs.Tests.{totals, step_test, holds_in}
+use Rattle.c_runs.specs.Checks.{Check, here, one_if, index_checks, all_checks}
+use Rattle.c_runs.specs.Tests.{totals, step_test, holds_in}
 use Rattle.value_terms.specs.Readings as readings
 use Rattle.value_terms.specs.Readings.{Term, block_term, offset_term, term_at, Reading, term_fits}
 use Rattle.value_terms.specs.Terms.{address_term, terms_of}

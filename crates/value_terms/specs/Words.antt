@@ -25,7 +25,7 @@ use Rattle.c_runs.specs.Program.{Facts, Variable}
 use Rattle.c_runs.specs.Operators.{Undefined, init, overflow, divzero, shift, access, index, pointing, comparing, is_order}
 use Rattle.c_runs.specs.Objects.{plain_root, has_value, cell_of, is_pointed, is_sure}
 use Rattle.c_runs.specs.Values.{kind_at}
-use Rattle.rte_checks.specs.Checks.{Check, here, second_constant, may_be_zero, may_be_minus_one, in_operand, later}
+use Rattle.c_runs.specs.Checks.{Check, here, second_constant, may_be_zero, may_be_minus_one, in_operand, later}
 use Rattle.value_terms.specs.Readings.{Term, number_term, block_term, offset_term, term_at, Reading, plain_global}
 use Rattle.value_terms.specs.Terms.{of_one, of_two, exact_term, address_term, cell_term, moved_terms, op_term, terms_of}
 

@@ -8,13 +8,13 @@ use Rattle.c_kinds.specs.Models.{long_bits, high, difference_kind}
 use Rattle.qed_terms.specs.Meaning as m
 use Rattle.typed_prog.specs.declared.operators.Variable as code
 use Rattle.qed_terms.specs.Memory.{load}
-use Rattle.acsl_truth.specs.States.{Value, number, pointer, number_of, block_of, offset_of}
+use Rattle.c_runs.specs.TruthStates.{Value, number, pointer, number_of, block_of, offset_of}
 use Rattle.c_runs.specs.Program.{Facts, Variable}
 use Rattle.c_runs.specs.States.{World, Local, held_by, global_home, home_of, block_of_local}
 use Rattle.c_runs.specs.Operators.{truth_number}
 use Rattle.c_runs.specs.Scopes.{is_content, scalar_of}
 use Rattle.c_runs.specs.Values.{Temps}
-use Rattle.rte_checks.specs.Tests.{is_set_by}
+use Rattle.c_runs.specs.Tests.{is_set_by}
 use Rattle.value_terms.specs.Readings.{Term, as_number, as_test, as_pointer, Reading}
 use Rattle.value_terms.specs.Typed.{Scope, VariableIs}
 

@@ -9,7 +9,7 @@ use Rattle.typed_prog.specs.declared.operators.Op.TheVariants as op
 use Rattle.typed_prog.specs.Tree as t
 use Rattle.c_runs.specs.Program.{Facts, Variable}
 use Rattle.c_runs.specs.Operators.{comparing, pointing, is_order}
-use Rattle.rte_checks.specs.Checks.{here}
+use Rattle.c_runs.specs.Checks.{here}
 use Rattle.value_terms.specs.Readings.{Term, Reading, term_at}
 use Rattle.value_terms.specs.Terms.{moved_terms}
 use Rattle.value_terms.specs.Words.{asked, asked_if, pointing_term, comparing_term, op_items}

@@ -13,7 +13,7 @@ use Rattle.typed_prog.specs.Tree as t
 use Rattle.c_runs.specs.Program.{Facts, Variable}
 use Rattle.c_runs.specs.Objects.{plain_root, cell_of, is_pointed}
 use Rattle.c_runs.specs.Operators.{access}
-use Rattle.rte_checks.specs.Checks.{in_operand, later}
+use Rattle.c_runs.specs.Checks.{in_operand, later}
 use Rattle.plain_states.specs.Slots.{Sizes, value_slot, local_value, local_flag, temp_slot}
 use Rattle.plain_runs.specs.Fitting.{Shape, sizes}
 use Rattle.walk_steps.specs.Forms.{Slots}

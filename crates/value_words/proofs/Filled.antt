@@ -8,7 +8,7 @@ use Rattle.typed_prog.specs.Tree as t
 use Rattle.qed_terms.specs.Tree.{num}
 use Rattle.walk_steps.specs.Forms.{Slots}
 use Rattle.c_runs.specs.Program.{Facts}
-use Rattle.rte_checks.specs.Checks.{here}
+use Rattle.c_runs.specs.Checks.{here}
 use Rattle.plain_states.specs.Slots.{at_or}
 use Rattle.plain_runs.specs.Fitting.{Shape, sizes}
 use Rattle.value_terms.specs.Readings.{Term, as_number, as_test, as_pointer, number_term, condition}

@@ -5,7 +5,7 @@ use Rattle.typed_prog.specs.declared.operators.Step.{Step}
 use Rattle.typed_prog.specs.declared.operators.Step.TheVariants as step
 use Rattle.c_runs.specs.Program.{Facts}
 use Rattle.c_runs.specs.Operators as c
-use Rattle.rte_checks.specs.Checks.{here}
+use Rattle.c_runs.specs.Checks.{here}
 use Rattle.value_terms.specs.Readings.{Term, Reading, number_term, term_at}
 use Rattle.value_terms.specs.Words as words
 use Rattle.value_terms.specs.Words.{index_items}

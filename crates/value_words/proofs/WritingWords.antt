@@ -25,7 +25,7 @@ use Rattle.c_runs.specs.Program.{Facts}
 use Rattle.c_runs.specs.Operators.{Undefined, overflow}
 use Rattle.c_runs.specs.Objects.{plain_root, cell_of}
 use Rattle.c_runs.specs.Values.{kind_at}
-use Rattle.rte_checks.specs.Checks.{Check, second_constant, in_operand, later}
+use Rattle.c_runs.specs.Checks.{Check, second_constant, in_operand, later}
 use Rattle.value_terms.specs.Readings.{Term, Reading, plain_global}
 use Rattle.value_terms.specs.Terms.{exact_term}
 use Rattle.value_terms.specs.Words.{Item, asked, known, asked_if, with_check, is_between_term, held_term, range_facts, is_below_term, quotient_fits_term, shift_fits_term, division_items, arithmetic_items, live_term, len_term, pointing_term, comparing_term, access_term, index_items, cell_facts, facts_by, read_items, address_items, op_items, node_word, word_of, words}

@@ -5,7 +5,7 @@ use Rattle.wp_base.specs.declared.kinds.Kind.TheVariants as kind
 use Rattle.qed_terms.specs.Tree.{Tree, num}
 use Rattle.walk_steps.specs.Forms.{Slots}
 use Rattle.c_runs.specs.Program.{Facts, Variable}
-use Rattle.rte_checks.specs.Checks.{here}
+use Rattle.c_runs.specs.Checks.{here}
 use Rattle.plain_states.specs.Slots.{Sizes, sizes_of, at_or, value_slot, local_value, local_flag, temp_slot}
 use Rattle.plain_runs.specs.Fitting.{Shape}
 use Rattle.value_terms.specs.Readings.{Term, as_number, as_test, as_pointer, Reading}

@@ -1,7 +1,7 @@
 -- What the program holds in memory, as plain values.
 use Rattle.std.specs.Prelude.{◌≡◌, ◌++◌, List, map}
 use Rattle.qed_terms.specs.View.{formula_tree, term_tree}
-use Rattle.rte_checks.specs.Checks.{here}
+use Rattle.c_runs.specs.Checks.{here}
 use Rattle.check_lists.specs.View.{view_undefined}
 use Rattle.plain_states.specs.Slots.{Sizes}
 use Rattle.value_terms.specs.Readings as plain

@@ -11,7 +11,7 @@ ghost use Rattle.qed_terms.specs.View.{term_tree};
 ghost use Rattle.qed_terms.specs.declared.head.FormOp.TheVariants as form_ops;
 ghost use Rattle.qed_terms.specs.declared.head.Head.TheVariants as head;
 ghost use Rattle.qed_terms.specs.declared.head.TermOp.TheVariants as term_ops;
-ghost use Rattle.rte_checks.specs.Checks.{here};
+ghost use Rattle.c_runs.specs.Checks.{here};
 ghost use Rattle.term_drafts.specs.Drafts.{FormulaIs, TermIs};
 ghost use Rattle.value_terms.specs.Readings as readings;
 ghost use Rattle.value_terms.specs.Terms.{address_term, load_term, of_one as of_one_of};

@@ -1,7 +1,7 @@
 // What is known of a condition before it is made (C11 6.6).
 ghost use Rattle.std.specs.Prelude.{◌≡◌};
 ghost use Rattle.program_steps.specs.Words as spec;
-ghost use Rattle.rte_checks.specs.Checks as checks;
+ghost use Rattle.c_runs.specs.Checks as checks;
 ghost use Rattle.typed_prog.specs.View.{view_value, view_value_node};
 
 use typed_prog::{Value, ValueNode};

@@ -5,7 +5,7 @@ ghost use Rattle.c_kinds.specs.Numbers.{bits as bits_of};
 ghost use Rattle.c_runs.specs.Operators.{divzero, overflow, shift};
 ghost use Rattle.qed_terms.specs.Tree.{Tree, and_of, at_most as at_most_of, equal as equal_of, not_of, num};
 ghost use Rattle.qed_terms.specs.View.{term_tree};
-ghost use Rattle.rte_checks.specs.Checks.{here, may_be_minus_one as may_be_minus_one_of, may_be_zero as may_be_zero_of};
+ghost use Rattle.c_runs.specs.Checks.{here, may_be_minus_one as may_be_minus_one_of, may_be_zero as may_be_zero_of};
 ghost use Rattle.term_drafts.specs.Drafts.{FormulaIs, TermIs};
 ghost use Rattle.value_terms.specs.Readings.{number_term, term_at};
 ghost use Rattle.value_terms.specs.Terms.{exact_term};

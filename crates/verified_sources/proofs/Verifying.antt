@@ -3,7 +3,7 @@ use Rattle.std.proofs.Common.{◌≡◌, ℕ, Bool, true, false, ◌&&◌, List,
 use Rattle.std.specs.Prelude.{Option}
 use Rattle.typed_unit.specs.Unit as u
 use Rattle.c_runs.specs.Program.{Stmts, Program}
-use Rattle.core_checks.specs.Tree.{Steps}
+use Rattle.c_runs.specs.Tree.{Steps}
 use Rattle.plain_test.specs.Plain.{is_plain_file}
 use Rattle.slot_names.specs.Bases.{Name}
 use Rattle.binder_names.specs.Tables.{Named}

@@ -3,7 +3,7 @@ use Rattle.std.specs.Prelude.{◌≡◌, ℕ, Bool, true, false, ◌&&◌, List,
 use Rattle.std.specs.List.{list_all}
 use Rattle.typed_unit.specs.Unit as u
 use Rattle.c_runs.specs.Program.{Stmts, Function, Program}
-use Rattle.core_checks.specs.Tree.{Steps}
+use Rattle.c_runs.specs.Tree.{Steps}
 use Rattle.plain_runs.specs.Fitting.{is_param}
 use Rattle.plain_test.specs.Plain.{is_plain_file}
 use Rattle.plain_words.specs.Sets.{all_sets_stand}

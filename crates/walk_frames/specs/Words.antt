@@ -7,7 +7,7 @@ use Rattle.typed_prog.specs.declared.operators.Root.{Root}
 use Rattle.typed_prog.specs.declared.operators.Root.TheVariants as root
 use Rattle.c_runs.specs.Program.{Contract, Facts, Variable}
 use Rattle.c_runs.specs.Claims as broken
-use Rattle.core_checks.specs.Tree as core
+use Rattle.c_runs.specs.Tree as core
 use Rattle.plain_runs.specs.Fitting.{Shape}
 use Rattle.plain_states.specs.Slots.{sizes_of, value_slot, flag_slot, temp_slot, result_slot}
 use Rattle.value_terms.specs.Readings.{number_term, condition}

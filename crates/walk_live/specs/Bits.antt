@@ -1,7 +1,7 @@
 -- Sets of temporaries as lists of bits.
 use Rattle.std.specs.Prelude.{ℕ, zero, suc, Bool, not, ◌&&◌, ◌||◌, List, [], ◌∷◌, ◌++◌, map}
 use Rattle.typed_prog.specs.Tree as t
-use Rattle.core_checks.specs.Tree.{Step, Steps}
+use Rattle.c_runs.specs.Tree.{Step, Steps}
 use Rattle.checked_trees.specs.View.{steps_of}
 use Rattle.plain_runs.specs.Kept.{temps}
 use Rattle.program_steps.specs.Temporaries.{Temporaries, uses, live, all_live}

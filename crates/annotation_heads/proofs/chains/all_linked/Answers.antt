@@ -3,7 +3,7 @@ use Rattle.std.specs.Prelude.{Some}
 use Rattle.std.specs.Option.{option_map}
 use Rattle.acsl_trees.specs.declared.tree.Tree.{out-Tree}
 use Rattle.acsl_trees.specs.Tree.{trees_of, view_trees}
-use Rattle.acsl_truth.specs.Truth.{heads_of}
+use Rattle.c_runs.specs.Truth.{heads_of}
 use Rattle.acsl_encode.specs.Encode.{put}
 use Rattle.qed_terms.specs.View.{formula_tree}
 use Rattle.annotation_heads.specs.Chained.{link_of}

@@ -1,7 +1,7 @@
 use Rattle.std.proofs.Common.{◌≡◌, ◌≤◌, map}
 use Rattle.std.specs.Prelude.{Some}
 use Rattle.acsl_trees.specs.Tree.{trees_of, view_trees}
-use Rattle.acsl_truth.specs.Truth.{heads_of}
+use Rattle.c_runs.specs.Truth.{heads_of}
 use Rattle.qed_terms.specs.View.{formula_tree}
 use Rattle.acsl_encode.specs.Encode.{put, in_chain}
 use Rattle.annotation_heads.specs.View.{view_terms}

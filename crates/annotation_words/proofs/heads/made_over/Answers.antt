@@ -1,6 +1,6 @@
 use Rattle.std.proofs.Common.{◌≡◌, map, sym, subst, IfOk}
 use Rattle.acsl_trees.specs.Tree.{trees_of, view_trees}
-use Rattle.acsl_truth.specs.Truth.{heads_of}
+use Rattle.c_runs.specs.Truth.{heads_of}
 use Rattle.acsl_encode.specs.Readings.{Terms}
 use Rattle.acsl_encode.specs.Encode.{content_cells, region_of}
 use Rattle.annotation_heads.specs.View.{view_terms}

@@ -3,7 +3,7 @@ use Rattle.typed_prog.specs.Tree.{values_of}
 use Rattle.typed_prog.specs.View.{view_values}
 use Rattle.qed_terms.specs.View.{term_tree}
 use Rattle.check_lists.specs.View.{view_checks}
-use Rattle.core_checks.specs.Tree as core
+use Rattle.c_runs.specs.Tree as core
 use Rattle.checked_trees.specs.View.{view_goal}
 use Rattle.plain_states.specs.Slots.{temp_slot}
 use Rattle.program_steps.specs.Leaves.{number}

@@ -1,5 +1,5 @@
 use Rattle.std.proofs.Common.{◌≡◌, IfOk, subst}
-use Rattle.core_checks.specs.Tree.{Steps}
+use Rattle.c_runs.specs.Tree.{Steps}
 use Rattle.c_runs.specs.Program.{Program}
 use Rattle.typed_unit.specs.View.{view_typed}
 use Rattle.file_reports.specs.Bases.{bases_by}

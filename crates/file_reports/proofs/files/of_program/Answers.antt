@@ -1,6 +1,6 @@
 use Rattle.std.proofs.Common.{ap, sym, ◌∙◌}
-use Rattle.core_checks.specs.Adding.{add_checks}
-use Rattle.normal_stmts.specs.Normal.{normal}
+use Rattle.c_runs.specs.Adding.{add_checks}
+use Rattle.c_runs.specs.Normal.{normal}
 use Rattle.typed_unit.specs.View.{view_typed}
 use Rattle.file_reports.specs.Bases.{bases_by}
 use Rattle.file_reports.proofs.files.of_program.Goals as goal

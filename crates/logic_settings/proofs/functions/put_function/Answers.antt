@@ -4,7 +4,7 @@ use Rattle.std.proofs.lemmas.Int.{to_z-of_z}
 use Rattle.std.specs.Prelude.{Option, Some, option_map}
 use Rattle.std.proofs.lemmas.Bool.{and_parts}
 use Rattle.acsl_trees.specs.Tree.{view_tree}
-use Rattle.acsl_truth.specs.Truth.{kid}
+use Rattle.c_runs.specs.Truth.{kid}
 use Rattle.program_trees.specs.View.{view_facts}
 use Rattle.plain_annotations.specs.Settings.{shared}
 use Rattle.qed_terms.specs.Setting.{Logic}

@@ -1,7 +1,7 @@
 use Rattle.std.proofs.Common.{map, sym, ap, ◌∙◌}
 use Rattle.std.specs.Prelude.{Some}
 use Rattle.acsl_trees.specs.Tree.{view_tree}
-use Rattle.acsl_truth.specs.Truth.{kid}
+use Rattle.c_runs.specs.Truth.{kid}
 use Rattle.program_trees.specs.View.{view_facts}
 use Rattle.plain_annotations.specs.Settings.{shared}
 use Rattle.acsl_encode.specs.Encode.{as_integer}

@@ -2,7 +2,7 @@ use Rattle.std.proofs.Common.{◌≡◌, ◌+◌, map, ap, ◌∙◌, arith}
 use Rattle.std.specs.Option.{option_map}
 use Rattle.acsl_trees.specs.declared.tree.Tree.{out-Tree}
 use Rattle.acsl_trees.specs.Tree.{trees_of, view_trees}
-use Rattle.acsl_truth.specs.Truth.{heads_of}
+use Rattle.c_runs.specs.Truth.{heads_of}
 use Rattle.acsl_encode.specs.Encode.{terms_at}
 use Rattle.annotation_heads.specs.View.{view_ends, view_terms}
 use Rattle.memory_annotations.specs.Parts as parts

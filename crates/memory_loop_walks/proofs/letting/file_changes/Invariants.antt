@@ -1,6 +1,6 @@
 use Rattle.std.proofs.Common.{◌≡◌}
 use Rattle.c_runs.specs.Program.{Loop}
-use Rattle.core_checks.specs.Tree.{Steps}
+use Rattle.c_runs.specs.Tree.{Steps}
 use Rattle.memory_calls.specs.LoopSets as spec
 use Rattle.typed_prog.specs.declared.operators.Variable.TheVariants as variables
 use Rattle.walk_live.specs.Bits.{bits}

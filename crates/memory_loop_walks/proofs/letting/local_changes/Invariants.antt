@@ -1,5 +1,5 @@
 use Rattle.std.proofs.Common.{◌≡◌, ℕ}
-use Rattle.core_checks.specs.Tree.{Steps}
+use Rattle.c_runs.specs.Tree.{Steps}
 use Rattle.core_trees.specs.View.{view_loop}
 use Rattle.memory_calls.specs.LoopSets as spec
 use Rattle.plain_runs.specs.Kept.{some_sets}

@@ -2,7 +2,7 @@ use Rattle.std.proofs.Common.{true, refl, sym, ap, ◌∙◌}
 use Rattle.typed_prog.specs.View.{view_value}
 use Rattle.c_runs.specs.Program as p
 use Rattle.core_trees.specs.View.{view_claim, view_variables}
-use Rattle.normal_stmts.specs.Plans.{planned}
+use Rattle.c_runs.specs.Plans.{planned}
 use Rattle.program_trees.specs.View.{view_option, view_stmt, view_stmts}
 use Rattle.program_trees.proofs.Equations.{view_stmt-Evaluate, view_stmt-Initial, view_stmt-Break, view_stmt-Continue, view_stmt-Return, view_stmt-Assert}
 use Rattle.normal_bodies.proofs.Arms.{did_as, plain_arm, case_arm, default_arm, block_arm, jumps_arm, value_arm, loop_arm, switch_arm}

@@ -2,7 +2,7 @@ use Rattle.std.proofs.Common.{◌≡◌, ◌+◌, ◌*◌, max, false, drop}
 use Rattle.core_trees.specs.View.{view_cores, view_variables}
 use Rattle.program_trees.specs.declared.stmts.Stmt.TheViews.{size-Stmt}
 use Rattle.program_trees.specs.View.{view_stmts}
-use Rattle.normal_stmts.specs.Normal.{stmts, groups}
+use Rattle.c_runs.specs.Normal.{stmts, groups}
 use Rattle.normal_bodies.proofs.Following.{onto}
 use Rattle.normal_bodies.proofs.Grouping.{GroupsLeft}
 use Rattle.normal_bodies.proofs.bodies.+bodies.Given as goal

@@ -1,7 +1,7 @@
 use Rattle.std.proofs.Common.{◌≡◌, drop}
-use Rattle.core_runs.specs.Core.{join}
+use Rattle.c_runs.specs.Core.{join}
 use Rattle.core_trees.specs.View.{view_cores}
-use Rattle.normal_stmts.specs.Normal.{dispatch}
+use Rattle.c_runs.specs.Normal.{dispatch}
 use Rattle.program_trees.specs.View.{view_stmts}
 use Rattle.typed_prog.specs.View.{view_value}
 use Rattle.normal_bodies.proofs.dispatch.dispatched.Given as goal

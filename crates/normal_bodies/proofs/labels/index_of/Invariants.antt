@@ -1,5 +1,5 @@
 use Rattle.std.proofs.Common.{◌≡◌, false, drop}
-use Rattle.normal_stmts.specs.Normal.{index_of}
+use Rattle.c_runs.specs.Normal.{index_of}
 use Rattle.program_trees.specs.View.{view_stmts}
 use Rattle.normal_bodies.specs.Sought.{meets}
 use Rattle.normal_bodies.proofs.Finding.{from}

@@ -2,7 +2,7 @@ use Rattle.std.proofs.Common.{sym, subst}
 use Rattle.typed_prog.specs.Tree.{values_of}
 use Rattle.typed_prog.specs.View.{view_value, view_values}
 use Rattle.core_trees.specs.View.{view_variables}
-use Rattle.normal_stmts.specs.Plans.{kept, effect_plan, called_sent, operands}
+use Rattle.c_runs.specs.Plans.{kept, effect_plan, called_sent, operands}
 use Rattle.normal_steps.specs.Into.{MadeInto}
 use Rattle.normal_effects.proofs.Calling.{sent_value_done}
 use Rattle.normal_effects.proofs.effects.effect_made_from.Goals as goal

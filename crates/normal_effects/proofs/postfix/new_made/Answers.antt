@@ -2,7 +2,7 @@ use Rattle.c_runs.specs.Run.{first_operand}
 use Rattle.typed_prog.specs.Tree.{values_of}
 use Rattle.typed_prog.specs.View.{view_value, view_values}
 use Rattle.core_trees.specs.View.{view_variables}
-use Rattle.normal_stmts.specs.Plans.{pure}
+use Rattle.c_runs.specs.Plans.{pure}
 use Rattle.normal_effects.proofs.Storing.{new_done}
 use Rattle.normal_effects.proofs.postfix.new_made.Goals as goal
 

@@ -1,7 +1,7 @@
 use Rattle.typed_prog.specs.Tree.{values_of}
 use Rattle.typed_prog.specs.View.{view_values}
 use Rattle.core_trees.specs.View.{view_variables}
-use Rattle.normal_stmts.specs.Plans.{operands, first_plan}
+use Rattle.c_runs.specs.Plans.{operands, first_plan}
 use Rattle.normal_plans.proofs.Alone.{plain_store_done}
 use Rattle.normal_plans.proofs.operands.plain_store.Goals as goal
 

@@ -2,7 +2,7 @@ use Rattle.std.proofs.Common.{true, IfOk, arith, sym, ap, ◌∙◌, subst}
 use Rattle.typed_prog.specs.Tree.{values_of}
 use Rattle.typed_prog.specs.View.{view_value, view_values}
 use Rattle.core_trees.specs.View.{view_variables}
-use Rattle.normal_stmts.specs.Plans.{planned, first_plan, whole_made}
+use Rattle.c_runs.specs.Plans.{planned, first_plan, whole_made}
 use Rattle.normal_steps.proofs.Conditions.{straight_done}
 use Rattle.normal_steps.proofs.Ways.{jumps_done, branch_done}
 use Rattle.normal_steps.specs.Into.{MadeInto}

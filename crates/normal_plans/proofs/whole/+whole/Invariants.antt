@@ -3,7 +3,7 @@ use Rattle.typed_prog.specs.declared.tree.Value.{size-Value}
 use Rattle.typed_prog.specs.Tree.{values_of}
 use Rattle.typed_prog.specs.View.{view_values}
 use Rattle.core_trees.specs.View.{view_variables}
-use Rattle.normal_stmts.specs.Plans.{first_plan}
+use Rattle.c_runs.specs.Plans.{first_plan}
 use Rattle.normal_plans.proofs.whole.+whole.Given as goal
 
 abbrev pub decreases-planned_made : goal.decreases-planned_made

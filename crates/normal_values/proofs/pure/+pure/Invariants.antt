@@ -3,7 +3,7 @@ use Rattle.typed_prog.specs.declared.tree.Value.{size-Value}
 use Rattle.typed_prog.specs.Tree.{values_of}
 use Rattle.typed_prog.specs.View.{view_value, view_values}
 use Rattle.core_trees.specs.View.{view_variables}
-use Rattle.normal_stmts.specs.Plans.{pures}
+use Rattle.c_runs.specs.Plans.{pures}
 use Rattle.normal_values.proofs.Operands.{RestInto}
 use Rattle.normal_values.proofs.pure.+pure.Given as goal
 

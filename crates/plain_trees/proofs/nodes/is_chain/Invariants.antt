@@ -1,6 +1,6 @@
 use Rattle.std.proofs.Common.{◌≡◌, drop}
 use Rattle.acsl_trees.specs.Tree.{trees_of, view_trees}
-use Rattle.acsl_truth.specs.Truth.{heads_of}
+use Rattle.c_runs.specs.Truth.{heads_of}
 use Rattle.plain_annotations.specs.Plain as spec
 use Rattle.plain_trees.proofs.nodes.is_chain.Given as goal
 

@@ -2,7 +2,7 @@ use Rattle.std.proofs.Common.{rules, ◌≡◌, [], ◌∷◌, ◌+◌, true, fa
 use Rattle.checked_trees.proofs.Equations.{view_step-Set, view_step-Store, view_step-Start, view_step-Call, view_step-Branch, view_step-Repeat, view_step-Around, view_step-Exit, view_step-Give, view_step-Claim, view_step-Scope}
 use Rattle.checked_trees.specs.View.{view_goal, view_step, view_steps}
 use Rattle.check_lists.specs.View.{view_checks}
-use Rattle.core_checks.specs.Tree as core
+use Rattle.c_runs.specs.Tree as core
 use Rattle.core_trees.specs.View.{view_loop}
 use Rattle.typed_prog.specs.Tree.{values_of}
 use Rattle.typed_prog.specs.View.{view_value, view_values}

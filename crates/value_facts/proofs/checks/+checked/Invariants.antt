@@ -1,6 +1,6 @@
 use Rattle.std.proofs.Common.{◌≡◌, drop}
 use Rattle.core_trees.specs.View.{view_variables}
-use Rattle.rte_checks.specs.Checks.{have_checks}
+use Rattle.c_runs.specs.Checks.{have_checks}
 use Rattle.typed_prog.specs.Tree.{values_of}
 use Rattle.typed_prog.specs.View.{view_values}
 use Rattle.value_facts.proofs.checks.+checked.Given as goal

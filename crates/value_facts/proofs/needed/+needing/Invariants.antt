@@ -1,5 +1,5 @@
 use Rattle.std.proofs.Common.{◌≡◌, drop}
-use Rattle.normal_stmts.specs.Plans.{need}
+use Rattle.c_runs.specs.Plans.{need}
 use Rattle.typed_prog.specs.Tree.{values_of}
 use Rattle.typed_prog.specs.View.{view_values}
 use Rattle.value_facts.proofs.needed.+needing.Given as goal

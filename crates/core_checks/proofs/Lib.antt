@@ -1,4 +1,0 @@
-pub mod Writing
-pub mod Running
-mod Ordered
-pub mod Told

@@ -1,4 +1,0 @@
--- Laws of crates below, passed on to those above.
-pub use Rattle.rte_checks.proofs.Checking.{checked, operands_same, all_checked}
-pub use Rattle.rte_checks.proofs.Operators.{at_step, indexed_settle, unless_pointed}
-pub use Rattle.rte_checks.proofs.Settling.{settle_through, settle_append, last_settle}

@@ -1,4 +1,0 @@
-pub mod Plans
-pub mod Normal
-pub mod Laws
-pub mod Told

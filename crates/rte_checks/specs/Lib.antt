@@ -1,4 +1,0 @@
-pub mod Checks
-pub mod Tests
-pub mod Laws
-pub mod Failing

@@ -1,9 +1,0 @@
-pub mod View
-pub mod Labelled
-pub mod Regions
-pub mod Named
-pub mod Drawn
-pub mod Unless
-pub mod Asked
-pub mod Broken
-pub mod Laws

@@ -1,4 +1,0 @@
-pub mod Forces
-pub mod Parts
-pub mod Turned
-pub mod Passes

@@ -1,0 +1,5 @@
+use Rattle.memory_names.proofs.laws.written_fit.Goals as goal
+use Rattle.memory_names.proofs.Fitting as proof
+
+pub returns : goal.returns
+returns c = proof.written_fit

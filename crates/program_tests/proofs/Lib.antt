@@ -1,0 +1,12 @@
+pub mod Annotations
+pub mod Bodies
+pub mod Ready
+pub mod Pointers
+pub mod Places
+pub mod Regions
+pub mod Seen
+pub mod Sets
+pub mod Pointing
+pub mod Spoken
+pub mod Whole
+pub mod Samples

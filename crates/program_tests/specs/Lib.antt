@@ -1,0 +1,4 @@
+pub mod Tests
+pub mod Written
+pub mod Laws
+pub mod Examples

@@ -1,5 +1,5 @@
--- Tests of a core program with checks and of its annotations, by which they are all that the laws on goals ask (C11 6.8.6.2, 6.2.1p4; ACSL 2.2 to 2.5). Each is a
--- Bool, told by the tree that is tested and by where it stands.
+-- Tests of a core program with checks and of its annotations, by which they are all that the laws on goals ask (C11 6.8.6.2, 6.2.1p4; ACSL 2.2 to 2.5).
+-- Each is a Bool, told by the tree that is tested and by where it stands.
 use Rattle.std.specs.Prelude.{ℕ, zero, suc, nat_lt, Bool, true, false, not, ◌&&◌, ◌||◌, List, [], ◌∷◌, Option, Some, None}
 use Rattle.std.specs.List.{list_all}
 use Rattle.typed_prog.specs.declared.types.CoreType.{CoreType}
@@ -84,7 +84,8 @@ module _ (p : Facts) (k : Known) (entry back : Sights) where
 
 -- ---- statements
 
--- Where a statement stands: how many blocks are around it, the variables in scope, those in scope where the innermost loop is entered, and whether there is one.
+-- Where a statement stands: how many blocks are around it, the variables in scope, those in scope where the innermost loop is entered, and whether there
+-- is one.
 pub record Where : Type 0 where
   pub outs : ℕ
   pub in_scope : InScope

@@ -1,5 +1,5 @@
 -- A small function that passes, with sets of its own, and what is refused.
-use Rattle.std.specs.Prelude.{◌≡◌, ℕ, zero, suc, Bool, true, false, List, [], ◌∷◌, Option, Some, None}
+use Rattle.std.specs.Prelude.{◌≡◌, ℕ, zero, suc, pos, Bool, true, false, List, [], ◌∷◌, Option, Some, None}
 use Rattle.wp_base.specs.declared.kinds.Kind.TheVariants as kind
 use Rattle.typed_prog.specs.declared.operators.Root.TheVariants as root
 use Rattle.typed_prog.specs.declared.operators.Variable.TheVariants as variables
@@ -7,7 +7,7 @@ use Rattle.typed_prog.specs.Tree as t
 use Rattle.acsl_trees.specs.declared.heads.Content.TheVariants as content
 use Rattle.acsl_trees.specs.declared.heads.Head.TheVariants as head
 use Rattle.acsl_trees.specs.Tree.{Tree, leaf, one}
-use Rattle.c_runs.specs.Program.{Function}
+use Rattle.c_runs.specs.Program.{Behavior, Claim, Function}
 use Rattle.c_runs.specs.Tree as core
 use Rattle.c_runs.specs.Tree.{Steps}
 use Rattle.acsl_well_typed.specs.Definitions.{known_with}
@@ -42,6 +42,32 @@ with_set ts = record f {
 -- and a loop
 abbrev pub loop_with : Option (List Tree) → Steps
 loop_with o = core.then_ (core.repeat (record turns { assigns = o }) turn) core.end
+
+-- ---- claims: an integer, and a set, which is none
+
+abbrev pub so : Tree
+so = leaf (head.Number (pos 1))
+
+abbrev pub claimed : Tree → Claim
+claimed a = record { what = a; line = 1 }
+
+-- a behavior that assumes, requires and ensures these
+abbrev pub behaves : (assumed required ensured : Tree) → Behavior
+behaves a b c = record { assumes = a ∷ []; requires = claimed b ∷ []; ensures = claimed c ∷ []; assigns = None }
+
+-- the function with such behaviors, by this measure, and a loop with this invariant and variant
+abbrev pub with_behaviors : List Behavior → (measured : Tree) → Function Steps
+with_behaviors bs a = record f {
+  contract = record {
+    plain = record { assumes = []; requires = claimed so ∷ []; ensures = claimed so ∷ []; assigns = None };
+    decreases = Some (record { what = a; line = 1 });
+    behaviors = bs;
+    together = [];
+  };
+}
+
+abbrev pub loop_by : (invariant variant : Tree) → Steps
+loop_by a b = core.then_ (core.repeat (record turns { invariants = claimed a ∷ []; variant = Some (record { what = b; line = 1 }) }) turn) core.end
 
 -- ---- places
 
@@ -84,6 +110,18 @@ pub record ExamplesPass : Type 0 where
   pub exit : Passes (within 0 3) (core.then_ (core.around (core.then_ (core.exit 0) core.end)) core.end) true
   pub no_exit : Passes (within 0 3) (core.then_ (core.exit 0) core.end) false
   pub too_far : Passes (within 0 3) (core.then_ (core.around (core.then_ (core.exit 1) core.end)) core.end) false
+  -- assertions, invariants and variants
+  pub asserted : Passes (within 0 3) (core.then_ (core.claim (claimed so)) core.end) true
+  pub no_claim : Passes (within 0 3) (core.then_ (core.claim (claimed (number 1))) core.end) false
+  pub turned : Passes (within 1 3) (loop_by so so) true
+  pub no_invariant : Passes (within 1 3) (loop_by (number 1) so) false
+  pub no_variant : Passes (within 1 3) (loop_by so (number 1)) false
+  -- behaviors and measures
+  pub behaved : FunctionPasses (with_behaviors (behaves so so so ∷ []) so) true
+  pub no_assumption : FunctionPasses (with_behaviors (behaves (pointed 0) so so ∷ []) so) false
+  pub no_requirement : FunctionPasses (with_behaviors (behaves so (pointed 0) so ∷ []) so) false
+  pub no_promise : FunctionPasses (with_behaviors (behaves so so (pointed 0) ∷ []) so) false
+  pub no_measure : FunctionPasses (with_behaviors [] (pointed 0)) false
   -- results
   pub result : Passes (within 0 3) (result_to (to_variable 2 t.stop)) true
   pub with_operand : Passes (within 0 3) (result_to (to_variable 2 (t.more (held 0) t.stop))) false
